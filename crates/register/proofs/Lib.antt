@@ -1,0 +1,4 @@
+-- Lemmas on rows.
+pub mod After
+pub mod Order
+pub mod Places
