@@ -1,0 +1,2 @@
+-- The calls of a book.
+pub mod Calls

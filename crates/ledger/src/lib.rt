@@ -1,0 +1,2 @@
+// What a margin book is asked to do.
+pub mod call;
