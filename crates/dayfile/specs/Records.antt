@@ -7,9 +7,9 @@ use Rattle.margin.specs.Terms.{Terms}
 use Rattle.ledger.specs.declared.call.Call.{Call}
 use Rattle.ledger.specs.declared.call.Call.the-variants.{Deposit, Withdraw, SellOpen, BuyOpen, BuyClose, SellClose, LegClose, Fill, Cancel, Combine, Release}
 use Rattle.ledger.specs.Calls.{call-number}
-use Rattle.dayfile.specs.declared.settings.BaseScale.{BaseScale}
-use Rattle.dayfile.specs.declared.settings.BaseScale.the-variants.{Standard, Listed}
-use Rattle.dayfile.specs.declared.settings.Settings.{Settings}
+use Rattle.ledger.specs.declared.settings.BaseScale.{BaseScale}
+use Rattle.ledger.specs.declared.settings.BaseScale.the-variants.{Standard, Listed}
+use Rattle.ledger.specs.declared.settings.Settings.{Settings}
 use Rattle.dayfile.specs.Bytes.{value}
 use Rattle.dayfile.specs.Layout.{code-column, underlying-column, expiry-column, right-column, kind-column, unit-column, strike-column, settlement-column, underlying-close-column, listed-margin-column, call-column, account-column, strategy-column, a-column, b-column, lots-column, amount-column}
 

@@ -1,6 +1,6 @@
 // What a sound day file says: its settings, its listing, and where its calls stand.
 ghost use Prim.Native.Nat.{_+_, _*_, _≤_};
-use crate::settings::Settings;
+use ledger::settings::Settings;
 use margin::listing::Listing;
 
 pub mod methods;

@@ -4,11 +4,13 @@ use mathlib.Core.Bool.{Bool, true, false, not, _&&_, _||_}
 use mathlib.Core.List.{List, [], _∷_, _++_, map}
 use Prim.Native.Nat.{ℕ, suc, _+_, _-_, _<_, _≤_}
 use native.Mathlib.Omega.{arith}
-use lib.Dec.{ltb}
+use lib.Dec.{ltb, eqb}
 use lib.ListN.{length, getD, set, take, drop}
-use Rattle.std.proofs.shelf.Lists.{append-assoc, append-nil, at-drop-more, length-take-le, take-more, take-more-set, map-push}
-use Rattle.std.proofs.shelf.Tests.{and-parts, and-from, not-from-false, le-ltb, lt-ltb}
+use Rattle.std.proofs.shelf.Lists.{append-assoc, append-nil, at-drop-more, drop-more, length-take-le, take-more, take-more-set, map-push}
+use Rattle.std.proofs.shelf.Tests.{and-parts, and-from, not-from-false, le-ltb, lt-ltb, eq-eqb, ne-eqb, cond-true, cond-false}
+use Rattle.std.specs.declared.option.Option.the-variants.{Some}
 use Rattle.margin.specs.declared.contract.Contract.{Contract}
+use Rattle.margin.specs.ByCode.{by-code, index}
 use Rattle.margin.specs.Terms.{Terms, terms-of}
 use Rattle.margin.specs.Listed.{last-code, above, rising-from, clashes, clashes-any, agreeing-after}
 
@@ -75,3 +77,18 @@ module _ {cs : List Contract} {n : ℕ} {x : Contract} (r : Room cs n x) (next :
 
   pub still-agreeing : clashes-any (map terms-of (take n cs)) (terms-of next) ≡ false → agreeing-after [] (map terms-of (take n cs)) ≡ true → agreeing-after [] (map terms-of (take (n + 1) (set cs n next))) ≡ true
   still-agreeing h e = ap (agreeing-after []) terms-joined ∙ agreeing-push [] (map terms-of (take n cs)) (terms-of next) e h
+
+-- a code among what is left of the contracts from `i` on
+module _ (cs : List Contract) (i : ℕ) (x : Contract) (code : ℕ) (h : i < length cs) (is : x ≡ getD cs i x) where
+  rest : drop i cs ≡ x ∷ drop (i + 1) cs
+  rest = drop-more cs i x h ∙ ap (λ y. y ∷ drop (i + 1) cs) (sym is)
+
+  pub code-here : x .code ≡ code → (by-code (drop i cs) code ≡ Some x) × (index (drop i cs) code ≡ 0)
+  code-here e =
+      let same : eqb (x .code) code ≡ true = eq-eqb _ _ e in
+      (ap (λ l. by-code l code) rest ∙ cond-true _ _ _ same, ap (λ l. index l code) rest ∙ cond-true _ _ _ same)
+
+  pub code-later : (x .code ≡ code → ⊥) → (by-code (drop (i + 1) cs) code ≡ by-code (drop i cs) code) × (1 + index (drop (i + 1) cs) code ≡ index (drop i cs) code)
+  code-later ne =
+      let other : eqb (x .code) code ≡ false = ne-eqb _ _ ne in
+      (sym (ap (λ l. by-code l code) rest ∙ cond-false _ _ _ other), sym (ap (λ l. index l code) rest ∙ cond-false _ _ _ other))

@@ -2,6 +2,7 @@
 pub mod Terms
 pub mod Listed
 pub mod Listing
+pub mod ByCode
 pub mod Strategies
 pub mod Fits
 pub mod FittedPairs

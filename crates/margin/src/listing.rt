@@ -21,6 +21,13 @@ pub struct Listing {
     ghost agreeing: { agreeing-after [] (map terms-of (take count contracts)) ≡ true },
 }
 
+// A listed contract, with its place in the listing from 0.
+#[derive(Clone, Copy)]
+pub struct Listed {
+    pub place: usize,
+    pub contract: Contract,
+}
+
 // Why a contract does not join a listing.
 #[derive(Clone, Copy, PartialEq, Eq)]
 pub enum ListingFault {

@@ -11,9 +11,9 @@ use crate::fault::Section;
 use crate::record::Reader;
 use crate::sections::CALL;
 use crate::sections::locate;
-use crate::settings::Settings;
 use crate::settings::parse::find as find_settings;
 use ledger::call::Call;
+use ledger::settings::Settings;
 use margin::listing::Listing;
 
 const LEAST: usize = 24;

@@ -9,8 +9,6 @@ ghost use Rattle.dayfile.specs.Layout.{settings-fields};
 ghost use Rattle.dayfile.specs.Records.{settings-numbers};
 ghost use Rattle.dayfile.specs.Format.{start as start-of, settings-part, settings-fault};
 ghost use Rattle.dayfile.specs.declared.fault.Section.the-variants.{Settings as IsSettings};
-use super::BaseScale;
-use super::Settings;
 use crate::fault::RecordFault;
 use crate::fault::Section;
 use crate::fault::SectionFault;
@@ -21,6 +19,8 @@ use crate::record::Reader;
 use crate::record::Record;
 use crate::record::read;
 use crate::sections::SETTINGS;
+use ledger::settings::BaseScale;
+use ledger::settings::Settings;
 
 const SCALE: Column = Column { at: 0, width: 1 };
 

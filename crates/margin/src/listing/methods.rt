@@ -5,7 +5,8 @@ ghost use mathlib.Core.List.{[], _∷_, map};
 ghost use lib.ListN.{length};
 ghost use Rattle.margin.specs.Terms.{terms-of};
 ghost use Rattle.margin.specs.Listed.{clashes as clash-of, clashes-any, rising-from, agreeing-after};
-ghost use Rattle.margin.specs.Listing.{listed, listed-terms, Joins};
+ghost use Rattle.margin.specs.Listing.{listed, listed-terms, Joins, Finds};
+use super::Listed;
 use super::Listing;
 use super::ListingFault;
 use crate::contract::Contract;
@@ -33,6 +34,21 @@ fn clashing(contracts: &[Contract], later: &Contract) -> bool
     false
 }
 
+// The place of a code among contracts, and its contract.
+fn find_among(contracts: &[Contract], code: u32) -> Option<Listed>
+    ensures { λ r. ⌜ Finds (now (contracts .entry)) code r ⌝ }
+{
+    for (place, contract) in contracts.iter().enumerate() {
+        if contract.code == code {
+            return Some(Listed {
+                place,
+                contract: *contract,
+            });
+        }
+    }
+    None
+}
+
 impl Listing {
     // The listing of one contract.
     pub fn of(first: Contract) -> Listing
@@ -52,6 +68,13 @@ impl Listing {
     {
         let count = self.count;
         &self.contracts[0..count]
+    }
+
+    // The place of a code among the listed contracts, from 0, and its contract.
+    pub fn find(&self, code: u32) -> Option<Listed>
+        ensures { λ r. ⌜ Finds (listed (now (self .entry))) code r ⌝ }
+    {
+        find_among(self.contracts(), code)
     }
 
     // Lists one more contract behind the others.

@@ -1,0 +1,3 @@
+mod OpenTables
+mod Working
+mod Ordering

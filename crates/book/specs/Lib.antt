@@ -1,0 +1,5 @@
+-- What a book keeps.
+pub mod Book
+pub mod Questions
+pub mod Checks
+pub mod Sides
