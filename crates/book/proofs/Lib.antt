@@ -1,3 +1,9 @@
 mod OpenTables
 mod Working
 mod Ordering
+mod Pricing
+mod Lawful
+mod Ending
+mod Filling
+mod Releasing
+mod Engaging

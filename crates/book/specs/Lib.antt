@@ -3,3 +3,4 @@ pub mod Book
 pub mod Questions
 pub mod Checks
 pub mod Sides
+pub mod Facts

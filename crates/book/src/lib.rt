@@ -1,5 +1,9 @@
 // The intraday margin book.
+mod amounts;
 pub mod cash;
+pub mod combinations;
+pub mod fills;
+mod moves;
 pub mod opening;
 pub mod orders;
 mod parts;

@@ -122,7 +122,7 @@ impl Book {
     }
 
     // Takes the reserve of an order and enters it.
-    fn enter(&mut self, order: Order, reserve: u64) -> Result<(u32, u64), Refusal>
+    pub(crate) fn enter(&mut self, order: Order, reserve: u64) -> Result<(u32, u64), Refusal>
         requires funds { ⌜ tables-of (now self) .funds .balance + tables-of (now self) .funds .reserved < 2 ^ 64 ⌝ }
         ensures { λ r. ⌜ ByTests (enter-tests (tables-of (now (self .entry))) reserve) (tables-of (now (self .entry))) r (tables-of (now (self .exit))) (OrderTaken order reserve (tables-of (now (self .entry)))) ⌝ }
     {

@@ -78,3 +78,13 @@ pub(crate) fn premium(lots: u32, price: u64, contract: &Contract) -> u64
 {
     lots as u64 * (price * contract.unit as u64)
 }
+
+// An amount per lot, over all lots.
+pub(crate) fn times(lots: u32, per_lot: u64) -> u64
+    requires lots { ⌜ lots ≤ 1000 ⌝ }
+    requires per_lot { ⌜ «per_lot» ≤ 2 * 10 ^ 14 ⌝ }
+    ensures is { λ r. ⌜ r ≡ lots * «per_lot» ⌝ }
+    ensures most { λ r. ⌜ r ≤ 2 * 10 ^ 17 ⌝ }
+{
+    lots as u64 * per_lot
+}

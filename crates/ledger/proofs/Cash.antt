@@ -64,6 +64,6 @@ pub withdraw-stays : WithdrawStays
 withdraw-stays m b amount l (Err e) after law h = refused-keeps law (h .1)
 withdraw-stays m b amount l (Ok x) after law h =
     let u = unmet (withdraw-tests b amount) (h .0) in
-    let enough : amount - 0 ≤ b .funds .balance = ltb-false (b .funds .balance) (amount - 0) (u .1 .0) in
+    let enough : amount ≤ b .funds .balance = ltb-false (b .funds .balance) amount (u .1 .0) in
     subst (λ z. Law m (cash-out amount l) z) (sym (h .1 .0))
     (cash-moved m l b (b .funds .balance - amount) (b .funds .cash - amount) (l .came-in) (l .went-out + amount) law (omega (arith, law .beside .sum)) (omega (arith, law .beside .sum, law .beside .cash)) (omega (arith, law .sound .cash, law .beside .cash)))

@@ -90,7 +90,7 @@ module _ (m : Meaning) (l : Ledger) (b : Tables) (law : Law m l b) (n : ℕ) whe
   -- Cancels ---------------------------------------------------------------------------------------
 
   abbrev cancelled-then : Order → List (Row Order) → Tables
-  cancelled-then o rows = funds-to (fill-funds (o .lots * reserve-per-lot m b (o .kind) (o .limit)) 0 0 0 0 (b .funds)) (freed m b (o .kind) o (orders-to rows (b .«order_series») b))
+  cancelled-then o rows = funds-to (fill-funds (o .lots * reserve-per-lot m b (o .kind) (o .limit)) 0 0 0 0 (b .funds)) (freed b (o .kind) o (orders-to rows (b .«order_series») b))
 
   cancelled-as : (kind : OrderKind) (a lots limit : ℕ) → Part l n lots (made a kind lots limit) →
       Law m (left l n lots (made a kind lots limit) (l .came-in) (l .went-out) (l .bought) (l .written) (l .combinations)) (cancelled-then (made a kind lots limit) (order-rest n lots (made a kind lots limit) (b .orders)))
@@ -102,7 +102,7 @@ module _ (m : Meaning) (l : Ledger) (b : Tables) (law : Law m l b) (n : ℕ) whe
       let o : Order = made a (LegClose k c) lots limit in
       let g : LegOf (l .combinations) a k c = law .sound .orders n o (part .stands) .leg in
       subst (λ z. Law m (left l n lots o (l .came-in) (l .went-out) (l .bought) (l .written) (l .combinations))
-      (funds-to (fill-funds (lots * leg-reserve m b c limit z) 0 0 0 0 (b .funds)) (disengaged m b k lots (orders-to (order-rest n lots o (b .orders)) (b .«order_series») b) z)))
+      (funds-to (fill-funds (lots * leg-reserve m b c limit z) 0 0 0 0 (b .funds)) (disengaged b k lots (orders-to (order-rest n lots o (b .orders)) (b .«order_series») b) z)))
       (sym (row-found k (g .combination) (g .stands)))
       (leg-close-cancelled m l b law n k a c lots limit (g .combination) (g .stands) part)
 

@@ -46,7 +46,7 @@ passed : (b : Tables) (a code lots limit amount : ℕ) (own : ℕ × Bool) → f
 passed b a code lots limit amount own p =
     let u = unmet (order-tests b a code lots limit own amount) p in
     let c = some-of (by-code (contracts-of b) code) (u .1 .0) in
-    let s : amount - 0 ≤ b .funds .balance = ltb-false (b .funds .balance) (amount - 0) (u .1 .1 .1 .1 .1 .0) in
+    let s : amount ≤ b .funds .balance = ltb-false (b .funds .balance) amount (u .1 .1 .1 .1 .1 .0) in
     record {
       account = within 1 8 a (u .0);
       contract = c .0;

@@ -29,7 +29,7 @@ pub record OtherLeg (m : Meaning) (b : Tables) (p : Pairing) (code lots : ℕ) :
   pub is-listed : by-code (contracts-of b) other ≡ Some contract
   pub apart : other ≡ code → ⊥
   pub move : Position → Position
-  pub unlocked : (eng : ℕ) (to : Tables) → other-unlocked m b (combination-with eng p) code lots to ≡ at (p .account) other move to
+  pub unlocked : (eng : ℕ) (to : Tables) → other-unlocked b (combination-with eng p) code lots to ≡ at (p .account) other move to
   pub freed-written : ℕ
   pub freed-bought : ℕ
   pub keeps-bought : (q : Position) → move q .bought ≡ q .bought

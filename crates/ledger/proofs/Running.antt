@@ -56,11 +56,11 @@ module _ (m : Meaning) (b : Tables) where
   traded-stay (SellClose c) o lots price to e = e
   traded-stay (LegClose n c) o lots price to e = leg-traded-stay o n c lots price to (lookup (b .combinations) n) e
 
-  disengaged-stay : (n lots : ℕ) (to : Tables) (k : Option Combination) → contracts-of to ≡ contracts-of b → contracts-of (disengaged m b n lots to k) ≡ contracts-of b
+  disengaged-stay : (n lots : ℕ) (to : Tables) (k : Option Combination) → contracts-of to ≡ contracts-of b → contracts-of (disengaged b n lots to k) ≡ contracts-of b
   disengaged-stay n lots to (Some k) e = e
   disengaged-stay n lots to None e = e
 
-  freed-stay : (kind : OrderKind) (o : Order) (to : Tables) → contracts-of to ≡ contracts-of b → contracts-of (freed m b kind o to) ≡ contracts-of b
+  freed-stay : (kind : OrderKind) (o : Order) (to : Tables) → contracts-of to ≡ contracts-of b → contracts-of (freed b kind o to) ≡ contracts-of b
   freed-stay (SellOpen c) o to e = e
   freed-stay (BuyOpen c) o to e = e
   freed-stay (BuyClose c) o to e = e

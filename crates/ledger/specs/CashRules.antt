@@ -19,7 +19,7 @@ abbrev pub withdrawn : ℕ → Tables → Tables
 withdrawn amount b = funds-to (record { balance = b .funds .balance - amount; held = b .funds .held; reserved = b .funds .reserved; cash = b .funds .cash - amount }) b
 
 abbrev pub withdraw-tests : Tables → ℕ → List (ℕ × Bool)
-withdraw-tests b amount = bad-amount amount ∷ short-of-balance b 0 amount ∷ []
+withdraw-tests b amount = bad-amount amount ∷ short-of-balance b amount ∷ []
 
 abbrev pub WithdrawRule : Tables → ℕ → Answer → Tables → Type 0
 WithdrawRule b amount r after = ByTests (withdraw-tests b amount) b r after (answers 0 (withdrawn amount b))

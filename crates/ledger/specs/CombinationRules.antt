@@ -1,6 +1,6 @@
 -- The rules of combine, release and leg close. Assumes nothing.
 use mathlib.Core.Bool.{Bool, false, not, _&&_, _||_}
-use mathlib.Core.List.{List, [], _∷_}
+use mathlib.Core.List.{List, [], _∷_, _++_}
 use Prim.Native.Nat.{ℕ, _+_, _-_, _*_, _^_, _/_, _%_}
 use lib.Dec.{eqb, ltb}
 use Rattle.std.specs.declared.option.Option.{Option}
@@ -36,6 +36,15 @@ written-leg p code = eqb (p .second) code || (first-written (p .strategy) && eqb
 -- what is gained on the balance and what is taken from it, together; margin held less and more
 abbrev pub margins-moved : ℕ → ℕ → Funds → Funds
 margins-moved back taken f = record { balance = f .balance + back - taken; held = f .held + taken - back; reserved = f .reserved; cash = f .cash }
+
+module _ (b : Tables) where
+  -- the tests of what a leg close names besides its combination
+  abbrev pub leg-terms-tests : ℕ → ℕ → ℕ → List (ℕ × Bool)
+  leg-terms-tests code lots limit = not-listed b code ∷ bad-lots lots ∷ bad-price limit ∷ []
+
+  -- leg closes of the strategy are not permitted, or the leg is not a written one; more than the lots not engaged
+  abbrev pub leg-checks : Combination → ℕ → ℕ → List (ℕ × Bool)
+  leg-checks x code lots = (17, not (may-close (b .permitted) (x .strategy)) || not (written-leg (content x) code)) ∷ (18, ltb (x .lots - x .engaged) lots) ∷ []
 
 module _ (m : Meaning) (b : Tables) where
   abbrev pub fit-together : Strategy → Option Contract → Option Contract → Bool
@@ -74,11 +83,16 @@ module _ (m : Meaning) (b : Tables) where
       (combinations-to (combination-rest n lots 0 k (b .combinations)) (b .«combination_series»)
       (at (k .account) (k .second) (unlocking-written lots) (at (k .account) (k .first) (unlock-first (k .strategy) lots) b)))
 
-  abbrev pub release-tests : Option Combination → ℕ → List (ℕ × Bool)
-  release-tests k lots =
-      bad-lots lots ∷ (16, is-none k)
+  -- the tests that look at the combination
+  abbrev pub release-entry-tests : Option Combination → ℕ → List (ℕ × Bool)
+  release-entry-tests k lots =
+      (16, is-none k)
       ∷ (18, meets k (λ x. ltb (x .lots - x .engaged) lots))
-      ∷ (21, meets k (λ x. ltb (b .funds .balance) (lots * legs-per-lot m (contracts-of b) (x .strategy) (x .first) (x .second) - lots * pair-per-lot m (contracts-of b) (x .strategy) (x .first) (x .second)))) ∷ []
+      ∷ (21, meets k (λ x. ltb (b .funds .balance) (lots * legs-per-lot m (contracts-of b) (x .strategy) (x .first) (x .second) - lots * pair-per-lot m (contracts-of b) (x .strategy) (x .first) (x .second))))
+      ∷ []
+
+  abbrev pub release-tests : Option Combination → ℕ → List (ℕ × Bool)
+  release-tests k lots = bad-lots lots ∷ release-entry-tests k lots
 
   abbrev pub ReleaseRule : ℕ → ℕ → Answer → Tables → Type 0
   ReleaseRule n lots r after =
@@ -90,13 +104,17 @@ module _ (m : Meaning) (b : Tables) where
   abbrev pub leg-close-per-lot : Combination → ℕ → ℕ → ℕ
   leg-close-per-lot k code limit = leg-close-reserve m (contracts-of b) code limit (Some (content k))
 
-  abbrev pub leg-close-tests : Option Combination → ℕ → ℕ → ℕ → List (ℕ × Bool)
-  leg-close-tests k code lots limit =
-      not-listed b code ∷ bad-lots lots ∷ bad-price limit ∷ (16, is-none k)
+  -- the tests that look at the combination
+  abbrev pub leg-entry-tests : Option Combination → ℕ → ℕ → ℕ → List (ℕ × Bool)
+  leg-entry-tests k code lots limit =
+      (16, is-none k)
       ∷ (17, meets k (λ x. not (may-close (b .permitted) (x .strategy)) || not (written-leg (content x) code)))
       ∷ (18, meets k (λ x. ltb (x .lots - x .engaged) lots))
       ∷ (21, meets k (λ x. ltb (b .funds .balance) (lots * leg-close-per-lot x code limit)))
       ∷ no-row (b .orders) ∷ no-number (b .«order_series») ∷ []
+
+  abbrev pub leg-close-tests : Option Combination → ℕ → ℕ → ℕ → List (ℕ × Bool)
+  leg-close-tests k code lots limit = leg-terms-tests b code lots limit ++ leg-entry-tests k code lots limit
 
   abbrev pub LegCloseRule : ℕ → ℕ → ℕ → ℕ → Answer → Tables → Type 0
   LegCloseRule n code lots limit r after =

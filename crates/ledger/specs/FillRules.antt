@@ -46,6 +46,23 @@ short-of-funds w f = ltb (f .balance + w .reserve + w .received + w .back) (w .p
 abbrev pub past-limit : Order → ℕ → Bool
 past-limit o price = cond (sells (o .kind)) (ltb price (o .limit)) (ltb (o .limit) price)
 
+module _ (b : Tables) where
+  -- the other leg of a combination is unlocked on its side; its leg margin is taken where it is written
+  abbrev pub other-unlocked : Combination → ℕ → ℕ → Tables → Tables
+  other-unlocked k code lots to = cond (eqb code (k .second)) (at (k .account) (k .first) (unlock-first (k .strategy) lots) to) (at (k .account) (k .second) (unlocking-written lots) to)
+
+  -- the lots of a cancelled leg close are engaged no more
+  abbrev pub disengaged : ℕ → ℕ → Tables → Option Combination → Tables
+  disengaged n lots to (Some k) = combinations-to (changed (b .combinations) n (with-lots (k .lots) (k .engaged - lots) k)) (b .«combination_series») to
+  disengaged n lots to None = to
+
+  abbrev pub freed : OrderKind → Order → Tables → Tables
+  freed (SellOpen c) o to = to
+  freed (BuyOpen c) o to = to
+  freed (BuyClose c) o to = at (o .account) c (unlocking-written (o .lots)) to
+  freed (SellClose c) o to = at (o .account) c (unlocking-bought (o .lots)) to
+  freed (LegClose n c) o to = disengaged n (o .lots) to (lookup (b .combinations) n)
+
 module _ (m : Meaning) (b : Tables) where
   abbrev pub leg-reserve : ℕ → ℕ → Option Combination → ℕ
   leg-reserve c limit k = leg-close-reserve m (contracts-of b) c limit (content-of k)
@@ -58,10 +75,6 @@ module _ (m : Meaning) (b : Tables) where
 
   abbrev pub other-margin : Combination → ℕ → ℕ
   other-margin k code = other-leg-margin m (contracts-of b) code (content k)
-
-  -- the other leg of a combination is unlocked on its side; its leg margin is taken where it is written
-  abbrev pub other-unlocked : Combination → ℕ → ℕ → Tables → Tables
-  other-unlocked k code lots to = cond (eqb code (k .second)) (at (k .account) (k .first) (unlock-first (k .strategy) lots) to) (at (k .account) (k .second) (unlocking-written lots) to)
 
   -- what each fill moves of the funds; that of a leg close by its combination
   abbrev pub leg-flow : ℕ → ℕ → ℕ → ℕ → Option Combination → Flow
@@ -85,7 +98,7 @@ module _ (m : Meaning) (b : Tables) where
   abbrev pub leg-traded : Order → ℕ → ℕ → ℕ → ℕ → Tables → Option Combination → Tables
   leg-traded o n c lots price to (Some k) =
       funds-to (filled-funds (leg-flow c (o .limit) lots price (Some k)) (b .funds))
-      (combinations-to (combination-rest n lots lots k (b .combinations)) (b .«combination_series») (other-unlocked k c lots (at (o .account) c (closing-written lots) to)))
+      (combinations-to (combination-rest n lots lots k (b .combinations)) (b .«combination_series») (other-unlocked b k c lots (at (o .account) c (closing-written lots) to)))
   leg-traded o n c lots price to None = to
 
   abbrev pub traded : Order → OrderKind → ℕ → ℕ → Tables → Tables
@@ -95,13 +108,18 @@ module _ (m : Meaning) (b : Tables) where
   traded o (SellClose c) lots price to = funds-to (filled-funds (flow (SellClose c) (o .limit) lots price) (b .funds)) (at (o .account) c (closing-bought lots) to)
   traded o (LegClose n c) lots price to = leg-traded o n c lots price to (lookup (b .combinations) n)
 
-  abbrev pub fill-tests : Option Order → ℕ → ℕ → List (ℕ × Bool)
-  fill-tests o lots price =
-      bad-lots lots ∷ bad-price price ∷ (16, is-none o)
+  -- the tests that look at the order
+  abbrev pub fill-order-tests : Option Order → ℕ → ℕ → List (ℕ × Bool)
+  fill-order-tests o lots price =
+      (16, is-none o)
       ∷ (18, meets o (λ x. ltb (x .lots) lots))
       ∷ (20, meets o (λ x. past-limit x price))
       ∷ (21, meets o (λ x. short-of-funds (flow (x .kind) (x .limit) lots price) (b .funds)))
-      ∷ (24, meets o (λ x. sells (x .kind) && ltb (10 ^ 17) (b .funds .cash + traded-premium (x .kind) lots price))) ∷ []
+      ∷ (24, meets o (λ x. sells (x .kind) && ltb (10 ^ 17) (b .funds .cash + traded-premium (x .kind) lots price)))
+      ∷ []
+
+  abbrev pub fill-tests : Option Order → ℕ → ℕ → List (ℕ × Bool)
+  fill-tests o lots price = bad-lots lots ∷ bad-price price ∷ fill-order-tests o lots price
 
   abbrev pub FillRule : ℕ → ℕ → ℕ → Answer → Tables → Type 0
   FillRule n lots price r after =
@@ -109,20 +127,8 @@ module _ (m : Meaning) (b : Tables) where
       ByTests (fill-tests o lots price) b r after
       (λ r after. Standing o (λ x. answers 0 (traded x (x .kind) lots price (orders-to (order-rest n lots x (b .orders)) (b .«order_series») b)) r after))
 
-  -- the lots of a cancelled leg close are engaged no more
-  abbrev pub disengaged : ℕ → ℕ → Tables → Option Combination → Tables
-  disengaged n lots to (Some k) = combinations-to (changed (b .combinations) n (with-lots (k .lots) (k .engaged - lots) k)) (b .«combination_series») to
-  disengaged n lots to None = to
-
-  abbrev pub freed : OrderKind → Order → Tables → Tables
-  freed (SellOpen c) o to = to
-  freed (BuyOpen c) o to = to
-  freed (BuyClose c) o to = at (o .account) c (unlocking-written (o .lots)) to
-  freed (SellClose c) o to = at (o .account) c (unlocking-bought (o .lots)) to
-  freed (LegClose n c) o to = disengaged n (o .lots) to (lookup (b .combinations) n)
-
   abbrev pub CancelRule : ℕ → Answer → Tables → Type 0
   CancelRule n r after =
       let o = lookup (b .orders) n in
       ByTests ((16, is-none o) ∷ []) b r after
-      (λ r after. Standing o (λ x. answers 0 (funds-to (fill-funds (x .lots * reserve-per-lot (x .kind) (x .limit)) 0 0 0 0 (b .funds)) (freed (x .kind) x (orders-to (removed (b .orders) n) (b .«order_series») b))) r after))
+      (λ r after. Standing o (λ x. answers 0 (funds-to (fill-funds (x .lots * reserve-per-lot (x .kind) (x .limit)) 0 0 0 0 (b .funds)) (freed b (x .kind) x (orders-to (removed (b .orders) n) (b .«order_series») b))) r after))

@@ -54,7 +54,7 @@ terms-tests b a code lots limit = bad-account a ∷ not-listed b code ∷ bad-lo
 
 -- the tests of what an order takes: its reserve, a row and a number
 abbrev pub enter-tests : Tables → ℕ → List (ℕ × Bool)
-enter-tests b amount = short-of-balance b 0 amount ∷ no-row (b .orders) ∷ no-number (b .«order_series») ∷ []
+enter-tests b amount = short-of-balance b amount ∷ no-row (b .orders) ∷ no-number (b .«order_series») ∷ []
 
 -- the tests of an order: its own stands among those of all
 abbrev pub order-tests : Tables → ℕ → ℕ → ℕ → ℕ → ℕ × Bool → ℕ → List (ℕ × Bool)

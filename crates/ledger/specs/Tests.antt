@@ -67,8 +67,8 @@ bad-lots lots = (13, outside 1 1000 lots)
 abbrev pub bad-price : ℕ → ℕ × Bool
 bad-price x = (14, outside 1 (10 ^ 7) x)
 
-abbrev pub short-of-balance : Tables → ℕ → ℕ → ℕ × Bool
-short-of-balance b gain cost = (21, ltb (b .funds .balance) (cost - gain))
+abbrev pub short-of-balance : Tables → ℕ → ℕ × Bool
+short-of-balance b cost = (21, ltb (b .funds .balance) cost)
 
 abbrev pub no-row : {T : Type 0} → List (Row T) → ℕ × Bool
 no-row rows = (22, not (some-free rows))
