@@ -7,3 +7,4 @@ mod Ending
 mod Filling
 mod Releasing
 mod Engaging
+mod Combining

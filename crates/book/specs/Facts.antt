@@ -2,10 +2,12 @@
 use mathlib.Core.Path.{_≡_}
 use mathlib.Core.List.{List}
 use Prim.Native.Nat.{ℕ, _≤_, _^_}
+use Rattle.std.specs.declared.option.Option.{Option}
 use Rattle.std.specs.declared.option.Option.the-variants.{Some}
 use Rattle.register.specs.Rows.{lookup}
 use Rattle.margin.specs.declared.contract.Contract.{Contract}
 use Rattle.margin.specs.declared.pair.FittedPair.{FittedPair}
+use Rattle.margin.specs.declared.strategy.Strategy.{Strategy}
 use Rattle.margin.specs.ByCode.{by-code}
 use Rattle.ledger.specs.declared.order.Combination.{Combination}
 use Rattle.ledger.specs.declared.tables.Funds.{Funds}
@@ -34,3 +36,9 @@ pub record PairOf (cs : List Contract) (k : Combination) (pair : FittedPair) : T
   pub strategy : pair .strategy ≡ k .strategy
   pub first : by-code cs (k .first) ≡ Some (pair .first)
   pub second : by-code cs (k .second) ≡ Some (pair .second)
+
+-- the fitted pair of a strategy, if there is one, and two codes
+pub record PairNamed (cs : List Contract) (s : Option Strategy) (one other : ℕ) (pair : FittedPair) : Type 0 where
+  pub strategy : s ≡ Some (pair .strategy)
+  pub first : by-code cs one ≡ Some (pair .first)
+  pub second : by-code cs other ≡ Some (pair .second)

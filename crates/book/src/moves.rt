@@ -3,7 +3,7 @@ ghost use mathlib.Core.Path.{_≡_};
 ghost use Prim.Native.Nat.{ℕ, _≤_, _<_, _^_};
 ghost use Rattle.ledger.specs.FillRules.{fill-funds};
 ghost use Rattle.ledger.specs.Law.{contracts-of, position-of, position-row as row-of};
-ghost use Rattle.ledger.specs.Moves.{funds-to, orders-to, combinations-to, order-rest, combination-rest, at, buying, writing, closing-bought, closing-written, unlocking-bought, unlocking-written, unlock-first};
+ghost use Rattle.ledger.specs.Moves.{funds-to, orders-to, combinations-to, order-rest, combination-rest, at, buying, writing, closing-bought, closing-written, locking-bought, locking-written, lock-first, unlocking-bought, unlocking-written, unlock-first};
 ghost use Rattle.ledger.specs.Runs.{Listed as IsListed};
 ghost use Rattle.book.specs.Book.{tables-of};
 ghost use Rattle.book.specs.Facts.{FundsWithin};
@@ -143,6 +143,50 @@ impl Book {
             locked_written: position.locked_written.saturating_sub(lots),
             ..position
         };
+    }
+
+    // Locks bought lots.
+    pub(crate) fn lock_bought(&mut self, account: u8, contract: u32, lots: u32)
+        requires account { ⌜ (1 ≤ account) × (account ≤ 8) ⌝ }
+        requires contract { ⌜ IsListed (contracts-of (tables-of (now self))) contract ⌝ }
+        requires few { ⌜ (lots ≤ 1000) × (position-of (tables-of (now self)) account contract .«locked_bought» ≤ 11000) ⌝ }
+        ensures { λ _. ⌜ tables-of (now (self .exit)) ≡ at account contract (locking-bought lots) (tables-of (now (self .entry))) ⌝ }
+    {
+        let row = self.row_of(account, contract);
+        let position = self.tables.positions[row];
+        self.tables.positions[row] = Position {
+            locked_bought: position.locked_bought + lots,
+            ..position
+        };
+    }
+
+    // Locks written lots.
+    pub(crate) fn lock_written(&mut self, account: u8, contract: u32, lots: u32)
+        requires account { ⌜ (1 ≤ account) × (account ≤ 8) ⌝ }
+        requires contract { ⌜ IsListed (contracts-of (tables-of (now self))) contract ⌝ }
+        requires few { ⌜ (lots ≤ 1000) × (position-of (tables-of (now self)) account contract .«locked_written» ≤ 11000) ⌝ }
+        ensures { λ _. ⌜ tables-of (now (self .exit)) ≡ at account contract (locking-written lots) (tables-of (now (self .entry))) ⌝ }
+    {
+        let row = self.row_of(account, contract);
+        let position = self.tables.positions[row];
+        self.tables.positions[row] = Position {
+            locked_written: position.locked_written + lots,
+            ..position
+        };
+    }
+
+    // Locks the first leg of a combination, on its side.
+    pub(crate) fn lock_first(&mut self, combination: &Combination, lots: u32)
+        requires account { ⌜ (1 ≤ now combination .account) × (now combination .account ≤ 8) ⌝ }
+        requires contract { ⌜ IsListed (contracts-of (tables-of (now self))) (now combination .first) ⌝ }
+        requires few { ⌜ (lots ≤ 1000) × (position-of (tables-of (now self)) (now combination .account) (now combination .first) .«locked_bought» ≤ 11000) × (position-of (tables-of (now self)) (now combination .account) (now combination .first) .«locked_written» ≤ 11000) ⌝ }
+        ensures { λ _. ⌜ tables-of (now (self .exit)) ≡ at (now (combination .entry) .account) (now (combination .entry) .first) (lock-first (now (combination .entry) .strategy) lots) (tables-of (now (self .entry))) ⌝ }
+    {
+        if combination.strategy.first_written() {
+            self.lock_written(combination.account, combination.first, lots);
+        } else {
+            self.lock_bought(combination.account, combination.first, lots);
+        }
     }
 
     // Unlocks bought lots.

@@ -43,7 +43,7 @@ use Rattle.ledger.proofs.Legs.{added-stays}
 use Rattle.ledger.proofs.Claims.{TwoLegs, two-legs, held-between, first-locked}
 use Rattle.ledger.proofs.Regrouping.{regrouped, regrouped-tables, regrouped-keeps}
 
-fit-parts : (m : Meaning) (b : Tables) (s : Strategy) (x y : Option Contract) → fit-together m b s x y ≡ true → (c d : Contract) × (x ≡ Some c) × (y ≡ Some d) × (fits s c d ≡ true)
+fit-parts : (m : Meaning) (b : Tables) (s : Strategy) (x y : Option Contract) → fit-together s x y ≡ true → (c d : Contract) × (x ≡ Some c) × (y ≡ Some d) × (fits s c d ≡ true)
 fit-parts m b s (Some c) (Some d) h = (c, d, refl, refl, h)
 fit-parts m b s (Some c) None h = let z : _≡_ {A = ℕ} 0 1 = cc in absurd (omega arith)
 fit-parts m b s None y h = let z : _≡_ {A = ℕ} 0 1 = cc in absurd (omega arith)

@@ -37,7 +37,31 @@ written-leg p code = eqb (p .second) code || (first-written (p .strategy) && eqb
 abbrev pub margins-moved : ℕ → ℕ → Funds → Funds
 margins-moved back taken f = record { balance = f .balance + back - taken; held = f .held + taken - back; reserved = f .reserved; cash = f .cash }
 
+abbrev pub fit-together : Strategy → Option Contract → Option Contract → Bool
+fit-together s (Some c) (Some d) = fits s c d
+fit-together s (Some c) None = false
+fit-together s None d = false
+
 module _ (b : Tables) where
+  -- the tests of what a combine names: account, legs, lots, and that the legs fit the strategy
+  abbrev pub pair-tests : Option Strategy → ℕ → ℕ → ℕ → ℕ → List (ℕ × Bool)
+  pair-tests s a first second lots =
+      bad-account a ∷ (12, (not-listed b first .1 || not-listed b second .1)) ∷ bad-lots lots
+      ∷ (15, not (meets s (λ x. fit-together x (by-code (contracts-of b) first) (by-code (contracts-of b) second)))) ∷ []
+
+  -- a leg has fewer free lots
+  abbrev pub legs-short : Strategy → ℕ → ℕ → ℕ → ℕ → Bool
+  legs-short s a first second lots = ltb (free-first s (position-of b a first)) lots || ltb (free-written (position-of b a second)) lots
+
+  -- the tests that look at funds and rows
+  abbrev pub pair-entry-tests : ℕ → ℕ → List (ℕ × Bool)
+  pair-entry-tests back taken = (21, ltb (b .funds .balance) (taken - back)) ∷ no-row (b .combinations) ∷ no-number (b .«combination_series») ∷ []
+
+  -- a combination enters at some free row, both legs locked; the leg margins come back, the pair margin is taken
+  abbrev pub CombinationTaken : Combination → Tables → Answer → Tables → Type 0
+  CombinationTaken k to r after =
+      (rows : List (Row Combination)) × (Added (b .combinations) (next-of (b .«combination_series»)) k rows × answers (next-of (b .«combination_series»)) (combinations-to rows (moved-on (b .«combination_series»)) to) r after)
+
   -- the tests of what a leg close names besides its combination
   abbrev pub leg-terms-tests : ℕ → ℕ → ℕ → List (ℕ × Bool)
   leg-terms-tests code lots limit = not-listed b code ∷ bad-lots lots ∷ bad-price limit ∷ []
@@ -47,27 +71,15 @@ module _ (b : Tables) where
   leg-checks x code lots = (17, not (may-close (b .permitted) (x .strategy)) || not (written-leg (content x) code)) ∷ (18, ltb (x .lots - x .engaged) lots) ∷ []
 
 module _ (m : Meaning) (b : Tables) where
-  abbrev pub fit-together : Strategy → Option Contract → Option Contract → Bool
-  fit-together s (Some c) (Some d) = fits s c d
-  fit-together s (Some c) None = false
-  fit-together s None d = false
-
-  -- a combination enters at some free row, both legs locked; the leg margins come back, the pair margin is taken
-  abbrev pub CombinationTaken : Combination → Tables → Answer → Tables → Type 0
-  CombinationTaken k to r after =
-      (rows : List (Row Combination)) × (Added (b .combinations) (next-of (b .«combination_series»)) k rows × answers (next-of (b .«combination_series»)) (combinations-to rows (moved-on (b .«combination_series»)) to) r after)
-
   abbrev pub CombinedAs : Strategy → ℕ → ℕ → ℕ → ℕ → Answer → Tables → Type 0
   CombinedAs s a first second lots =
-      CombinationTaken (record { account = a; strategy = s; first = first; second = second; lots = lots; engaged = 0 })
+      CombinationTaken b (record { account = a; strategy = s; first = first; second = second; lots = lots; engaged = 0 })
       (funds-to (margins-moved (lots * legs-per-lot m (contracts-of b) s first second) (lots * pair-per-lot m (contracts-of b) s first second) (b .funds))
       (at a second (locking-written lots) (at a first (lock-first s lots) b)))
 
   abbrev pub combine-tests : Option Strategy → ℕ → ℕ → ℕ → ℕ → List (ℕ × Bool)
   combine-tests s a first second lots =
-      bad-account a ∷ (12, (not-listed b first .1 || not-listed b second .1)) ∷ bad-lots lots
-      ∷ (15, not (meets s (λ x. fit-together x (by-code (contracts-of b) first) (by-code (contracts-of b) second))))
-      ∷ (18, meets s (λ x. ltb (free-first x (position-of b a first)) lots || ltb (free-written (position-of b a second)) lots))
+      pair-tests b s a first second lots ++ (18, meets s (λ x. legs-short b x a first second lots))
       ∷ (21, meets s (λ x. ltb (b .funds .balance) (lots * pair-per-lot m (contracts-of b) x first second - lots * legs-per-lot m (contracts-of b) x first second)))
       ∷ no-row (b .combinations) ∷ no-number (b .«combination_series») ∷ []
 
