@@ -8,3 +8,4 @@ mod Filling
 mod Releasing
 mod Engaging
 mod Combining
+mod Playing

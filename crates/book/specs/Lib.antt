@@ -4,3 +4,4 @@ pub mod Questions
 pub mod Checks
 pub mod Sides
 pub mod Facts
+pub mod Played

@@ -1,5 +1,6 @@
 // The intraday margin book.
 mod amounts;
+pub mod calls;
 pub mod cash;
 pub mod combinations;
 pub mod fills;
