@@ -1,0 +1,3 @@
+// Tests of the book; there is nothing else here.
+#[cfg(test)]
+mod tests;
