@@ -3,39 +3,29 @@ ghost use Rattle.ledger.specs.Keeps.{OpeningLaw, CallsKeep, ContractsStay, Fil
 ghost use Rattle.ledger.specs.Order.{TestsRise};
 
 // The law stands at opening.
-pub fn opening_keeps() -> u8
+pub fn opening_keeps()
     ensures { λ _. ⌜ OpeningLaw ⌝ }
-{
-    0
-}
+{}
 
 // Each of the eleven calls keeps the law, and changes no contract; a fill within its limit is never short of balance.
-pub fn calls_keep() -> u8
+pub fn calls_keep()
     ensures law { λ _. ⌜ CallsKeep ⌝ }
     ensures contracts { λ _. ⌜ ContractsStay ⌝ }
     ensures fill { λ _. ⌜ FillNeverShort ⌝ }
-{
-    0
-}
+{}
 
 // The law stands along every run, and so over the whole day.
-pub fn runs_keep() -> u8
+pub fn runs_keep()
     ensures run { λ _. ⌜ RunLaw ⌝ }
     ensures day { λ _. ⌜ DayLaw ⌝ }
-{
-    0
-}
+{}
 
 // Two books that are the same but for rows and numbers have equal balances.
-pub fn same_books_balance() -> u8
+pub fn same_books_balance()
     ensures { λ _. ⌜ SameBooksBalance ⌝ }
-{
-    0
-}
+{}
 
 // Each call's tests stand in rising order of their numbers.
-pub fn tests_rise() -> u8
+pub fn tests_rise()
     ensures { λ _. ⌜ TestsRise ⌝ }
-{
-    0
-}
+{}

@@ -4,30 +4,24 @@ ghost use Rattle.register.specs.Laws.{FreeRowsInOrder, ChangeKeepsOrder, Remov
 ghost use Rattle.register.specs.Laws.{SumAfterChange, SumAfterRemoval, SumAfterAddition};
 
 // What a look-up answers after a call, under the call's number and under every other.
-pub fn look_ups_follow<T: Copy>() -> u8
+pub fn look_ups_follow<T: Copy>()
     ensures change { λ _. ⌜ LookUpAfterChange T ⌝ }
     ensures removal { λ _. ⌜ LookUpAfterRemoval T ⌝ }
     ensures addition { λ _. ⌜ LookUpAfterAddition T ⌝ }
-{
-    0
-}
+{}
 
 // Each new number is above those that stand, and no two entries get one number.
-pub fn numbers_stay_in_order<T: Copy>() -> u8
+pub fn numbers_stay_in_order<T: Copy>()
     ensures free { λ _. ⌜ FreeRowsInOrder T ⌝ }
     ensures change { λ _. ⌜ ChangeKeepsOrder T ⌝ }
     ensures removal { λ _. ⌜ RemovalKeepsOrder T ⌝ }
     ensures addition { λ _. ⌜ AdditionKeepsOrder T ⌝ }
     ensures new { λ _. ⌜ NumberGivenIsNew T ⌝ }
-{
-    0
-}
+{}
 
 // What a sum over the rows in use comes to after a call.
-pub fn sums_follow<T: Copy>() -> u8
+pub fn sums_follow<T: Copy>()
     ensures change { λ _. ⌜ SumAfterChange T ⌝ }
     ensures removal { λ _. ⌜ SumAfterRemoval T ⌝ }
     ensures addition { λ _. ⌜ SumAfterAddition T ⌝ }
-{
-    0
-}
+{}
