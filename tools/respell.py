@@ -20,7 +20,7 @@ RENAMED = re.compile(r"\bas (" + NAME + r")")
 LOCAL = re.compile(r"(?:\blet |λ |[(;] ?)(" + NAME + r") *(?:[:=.]|↦)")
 MEMBER = re.compile(r"^\s*ghost (?!use\b)(\w+) *[:=]", re.M)
 KEPT_RT = r'("(?:\\.|[^"\\])*"|//.*)'
-KEPT_ANTT = r"(--.*)"
+KEPT_ANTT = r'("(?:\\.|[^"\\])*"|--.*)'
 MADE = ("Answers.antt", "Invariants.antt", "Choices.antt", "Proof.antt")
 MAKES = ("in", "if", "loop", "returns", "invariant", "decreases", "overflow", "then", "else", "index", "saturating")
 

@@ -1,4 +1,6 @@
 // The intraday margin book.
+#![tactic(auto)]
+
 mod amounts;
 pub mod calls;
 pub mod cash;

@@ -1,3 +1,5 @@
 // Tests of the book; there is nothing else here.
+#![tactic(auto)]
+
 #[cfg(test)]
 mod tests;

@@ -1,4 +1,6 @@
 // Reads a day file from standard input, and prints its report.
+#![tactic(auto)]
+
 use replay::play::report_text;
 use std::io;
 use std::io::Read;

@@ -1,4 +1,6 @@
 // The packed day file: a reader over the caller's bytes, its faults, and what a sound file says.
+#![tactic(auto)]
+
 pub mod call;
 pub mod contracts;
 pub mod fault;

@@ -1,4 +1,6 @@
 // Day files, sound and damaged, judged by the reader.
+#![tactic(auto)]
+
 #[cfg(test)]
 mod tests {
     use dayfile::file::DayFile;

@@ -1,4 +1,6 @@
 // Option contracts, the day's listing of them, strategies over two of them, and margin scales.
+#![tactic(auto)]
+
 pub mod contract;
 pub mod figures;
 pub mod listing;

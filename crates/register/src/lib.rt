@@ -1,4 +1,6 @@
 // A register of numbered entries, over rows that its owner hands in.
+#![tactic(auto)]
+
 pub mod laws;
 pub mod refusal;
 pub mod row;

@@ -1,4 +1,6 @@
 // From the bytes of a day file to a report: an opening line, a line for each call, an end line.
+#![tactic(auto)]
+
 pub mod failure;
 pub mod play;
 pub mod report;

@@ -1,4 +1,6 @@
 // Plays the day files that its arguments name, and prints the name and the report of each.
+#![tactic(auto)]
+
 use replay::play::report_text;
 use std::{env, fs, io};
 

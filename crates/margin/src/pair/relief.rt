@@ -9,7 +9,7 @@ use crate::scale::{CombinationScale, LegScale};
 impl FittedPair {
     // The leg margins of the written legs.
     pub fn legs_sum<L: LegScale>(&self, scale: &L) -> u64
-        ensures { result ≡ legs_sum (leg_of scale.now) self.now.strategy self.now.first self.now.second }
+        ensures { result ≡ legs_sum (L.leg_of scale.now) self.now.strategy self.now.first self.now.second }
     {
         let second = scale.leg(&self.second);
         if self.strategy.first_written() {
@@ -21,7 +21,7 @@ impl FittedPair {
 
     // The legs' sum less the pair margin; below nought where the pair margin is the larger.
     pub fn relief<S: CombinationScale>(&self, scale: &S) -> i64
-        ensures { result ≡ relief (meaning S.LegScale.leg_of pair_of scale.now) self.now.strategy self.now.first self.now.second }
+        ensures { result ≡ relief (meaning S.LegScale.leg_of S.pair_of scale.now) self.now.strategy self.now.first self.now.second }
     {
         self.legs_sum(scale) as i64 - scale.pair(self) as i64
     }

@@ -62,7 +62,7 @@ fn raw_margin(pair: &FittedPair, first_leg: u64, second_leg: u64) -> u64
 
 // The margin of one lot of the pair by the combination rules over these leg margins.
 pub fn pair_margin<L: LegScale>(legs: &L, pair: &FittedPair) -> u64
-    ensures { result ≡ pair_margin (leg_of legs.now) pair.now.strategy pair.now.first pair.now.second }
+    ensures { result ≡ pair_margin (L.leg_of legs.now) pair.now.strategy pair.now.first pair.now.second }
 {
     let raw = raw_margin(pair, legs.leg(&pair.first), legs.leg(&pair.second));
     HAO_PER_FEN * ((raw + HAO_PER_FEN / 2) / HAO_PER_FEN)

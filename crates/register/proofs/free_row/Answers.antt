@@ -3,4 +3,4 @@ use Rattle.register.proofs.Places.{free_from_first}
 use Rattle.register.proofs.free_row.Goals as goal
 
 pub returns : goal.returns
-returns g c = free_from_first c.args.rows.now c.first-row.result c.first-row.ensures
+returns g c = free_from_first c.args.rows.now c.first_row.result c.first_row.ensures

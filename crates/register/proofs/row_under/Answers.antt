@@ -6,4 +6,4 @@ pub returns-then-number-eq-FREE : goal.returns-then-number-eq-FREE
 returns-then-number-eq-FREE g c = zero_nowhere c.args.rows.now c.args.number c.if-number-eq-FREE.true
 
 pub returns : goal.returns
-returns g c = stands_from_first c.args.rows.now c.args.number c.first-row.result c.if-number-eq-FREE.false c.first-row.ensures
+returns g c = stands_from_first c.args.rows.now c.args.number c.first_row.result c.if-number-eq-FREE.false c.first_row.ensures

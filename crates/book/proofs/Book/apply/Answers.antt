@@ -4,37 +4,37 @@ use Rattle.book.proofs.Answering.{named}
 use Rattle.book.proofs.Book.apply.Goals as goal
 
 pub deposit-requires : goal.deposit-requires
-deposit-requires g c = record { its-scale = c.requires.its-scale }
+deposit-requires g c = record { its_scale = c.requires.its_scale }
 
 pub withdraw-requires : goal.withdraw-requires
-withdraw-requires g c = record { its-scale = c.requires.its-scale }
+withdraw-requires g c = record { its_scale = c.requires.its_scale }
 
-pub sell-open-requires : goal.sell-open-requires
-sell-open-requires g c = record { its-scale = c.requires.its-scale }
+pub sell_open-requires : goal.sell_open-requires
+sell_open-requires g c = record { its_scale = c.requires.its_scale }
 
-pub buy-open-requires : goal.buy-open-requires
-buy-open-requires g c = record { its-scale = c.requires.its-scale }
+pub buy_open-requires : goal.buy_open-requires
+buy_open-requires g c = record { its_scale = c.requires.its_scale }
 
-pub buy-close-requires : goal.buy-close-requires
-buy-close-requires g c = record { its-scale = c.requires.its-scale }
+pub buy_close-requires : goal.buy_close-requires
+buy_close-requires g c = record { its_scale = c.requires.its_scale }
 
-pub sell-close-requires : goal.sell-close-requires
-sell-close-requires g c = record { its-scale = c.requires.its-scale }
+pub sell_close-requires : goal.sell_close-requires
+sell_close-requires g c = record { its_scale = c.requires.its_scale }
 
-pub leg-close-requires : goal.leg-close-requires
-leg-close-requires g c = record { its-scale = c.requires.its-scale }
+pub leg_close-requires : goal.leg_close-requires
+leg_close-requires g c = record { its_scale = c.requires.its_scale }
 
 pub fill-requires : goal.fill-requires
-fill-requires g c = record { its-scale = c.requires.its-scale }
+fill-requires g c = record { its_scale = c.requires.its_scale }
 
 pub cancel-requires : goal.cancel-requires
-cancel-requires g c = record { its-scale = c.requires.its-scale }
+cancel-requires g c = record { its_scale = c.requires.its_scale }
 
 pub combine-requires : goal.combine-requires
-combine-requires g c = record { its-scale = c.requires.its-scale }
+combine-requires g c = record { its_scale = c.requires.its_scale }
 
 pub release-requires : goal.release-requires
-release-requires g c = record { its-scale = c.requires.its-scale }
+release-requires g c = record { its_scale = c.requires.its_scale }
 
 pub returns-in-Deposit : goal.returns-in-Deposit
 returns-in-Deposit g c =

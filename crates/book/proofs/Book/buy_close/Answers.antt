@@ -9,66 +9,66 @@ use Rattle.book.proofs.Lawful.{funds_fit}
 use Rattle.book.proofs.Ordering.{buy_close, no_terms, no_own, not_entered, locked, lockable, unit_amount}
 use Rattle.book.proofs.Book.buy_close.Goals as goal
 
-pub returns-in-err-listed : goal.returns-in-err-listed
-returns-in-err-listed g c =
+pub returns-in_err-listed : goal.returns-in_err-listed
+returns-in_err-listed g c =
     let b = c.args.self.now.tables in
     let a = c.args.account in
     let code = c.args.contract in
     let lots = c.args.lots in
     let limit = c.args.limit in
     let m : Meaning = meaning g.S.LegScale.leg_of g.S.CombinationScale.pair_of c.args.scale.now in
-    let e = c.in-err-listed.field-0.0 in
-    passed_on m b (BuyClose a code lots limit) c.from-residual.result e b c.from-residual.ensures.1 (no_terms b a code lots limit (buy_close m b a code lots limit) e c.in-err-listed.ensures.tests)
+    let e = c.in_err-listed.field-0.0 in
+    passed_on m b (BuyClose a code lots limit) c.from_residual.result e b c.from_residual.ensures.1 (no_terms b a code lots limit (buy_close m b a code lots limit) e c.in_err-listed.ensures.tests)
 
-pub check-free-lots-requires : goal.check-free-lots-requires
-check-free-lots-requires g c = let h = c.in-ok-listed.ensures in record { account = (h.ranges.0, h.ranges.1); contract = (c.in-ok-listed.listed.contract, h.found.contract); lots = h.ranges.2 }
+pub check_free_lots-requires : goal.check_free_lots-requires
+check_free_lots-requires g c = let h = c.in_ok-listed.ensures in record { account = (h.ranges.0, h.ranges.1); contract = (c.in_ok-listed.listed.contract, h.found.contract); lots = h.ranges.2 }
 
-pub returns-in-err-check-free-lots : goal.returns-in-err-check-free-lots
-returns-in-err-check-free-lots g c =
+pub returns-in_err-check_free_lots : goal.returns-in_err-check_free_lots
+returns-in_err-check_free_lots g c =
     let b = c.args.self.now.tables in
     let a = c.args.account in
     let code = c.args.contract in
     let lots = c.args.lots in
     let limit = c.args.limit in
     let m : Meaning = meaning g.S.LegScale.leg_of g.S.CombinationScale.pair_of c.args.scale.now in
-    let e = c.in-err-check-free-lots.field-0.0 in
-    passed_on m b (BuyClose a code lots limit) c.from-residual-in-err-check-free-lots.result e b c.from-residual-in-err-check-free-lots.ensures.1
-    (no_own b a code lots limit (buy_close m b a code lots limit) c.in-ok-listed.ensures.tests e c.in-err-check-free-lots.ensures)
+    let e = c.in_err-check_free_lots.field-0.0 in
+    passed_on m b (BuyClose a code lots limit) c.from_residual-in_err-check_free_lots.result e b c.from_residual-in_err-check_free_lots.ensures.1
+    (no_own b a code lots limit (buy_close m b a code lots limit) c.in_ok-listed.ensures.tests e c.in_err-check_free_lots.ensures)
 
 pub premium-reserve-requires : goal.premium-reserve-requires
-premium-reserve-requires g c = let h = c.in-ok-listed.ensures in record { lots = h.ranges.3; price = h.ranges.5 }
+premium-reserve-requires g c = let h = c.in_ok-listed.ensures in record { lots = h.ranges.3; price = h.ranges.5 }
 
 pub enter-requires : goal.enter-requires
 enter-requires g c =
     let m : Meaning = meaning g.S.LegScale.leg_of g.S.CombinationScale.pair_of c.args.scale.now in
-    let k = c.requires.its-scale in
+    let k = c.requires.its_scale in
     record { funds = funds_fit m c.args.self.now.tables k.0 k.1 }
 
-pub returns-in-err-answer : goal.returns-in-err-answer
-returns-in-err-answer g c =
+pub returns-in_err-answer : goal.returns-in_err-answer
+returns-in_err-answer g c =
     let b = c.args.self.now.tables in
     let a = c.args.account in
     let code = c.args.contract in
     let lots = c.args.lots in
     let limit = c.args.limit in
     let m : Meaning = meaning g.S.LegScale.leg_of g.S.CombinationScale.pair_of c.args.scale.now in
-    let h = c.in-ok-listed.ensures in
-    let e = c.in-err-answer.field-0.0 in
+    let h = c.in_ok-listed.ensures in
+    let e = c.in_err-answer.field-0.0 in
     let after = c.enter.new.self.tables in
-    passed_on m b (BuyClose a code lots limit) c.from-residual-in-err-answer.result e after c.from-residual-in-err-answer.ensures.1
-    (not_entered b a code lots limit (buy_close m b a code lots limit) h.tests c.in-ok-check-free-lots.ensures c.premium-reserve.result (unit_amount b code lots c.in-ok-listed.listed h.found limit c.premium-reserve.result c.premium-reserve.ensures.reserve) e after c.in-err-answer.ensures)
+    passed_on m b (BuyClose a code lots limit) c.from_residual-in_err-answer.result e after c.from_residual-in_err-answer.ensures.1
+    (not_entered b a code lots limit (buy_close m b a code lots limit) h.tests c.in_ok-check_free_lots.ensures c.premium-reserve.result (unit_amount b code lots c.in_ok-listed.listed h.found limit c.premium-reserve.result c.premium-reserve.ensures.reserve) e after c.in_err-answer.ensures)
 
-pub lock-lots-requires : goal.lock-lots-requires
-lock-lots-requires g c =
+pub lock_lots-requires : goal.lock_lots-requires
+lock_lots-requires g c =
     let b = c.args.self.now.tables in
     let a = c.args.account in
     let code = c.args.contract in
     let lots = c.args.lots in
     let limit = c.args.limit in
     let m : Meaning = meaning g.S.LegScale.leg_of g.S.CombinationScale.pair_of c.args.scale.now in
-    let h = c.in-ok-listed.ensures in
+    let h = c.in_ok-listed.ensures in
     let order : Order = record { account = a; kind = BuyCloseKind code; lots = lots; limit = limit } in
-    let l = lockable m b c.requires.its-scale a code h.ranges.0 h.ranges.1 c.in-ok-listed.listed h.found order c.premium-reserve.result c.in-ok-answer.answer c.enter.new.self.tables c.in-ok-answer.ensures.1 in
+    let l = lockable m b c.requires.its_scale a code h.ranges.0 h.ranges.1 c.in_ok-listed.listed h.found order c.premium-reserve.result c.in_ok-answer.answer c.enter.new.self.tables c.in_ok-answer.ensures.1 in
     record { account = (h.ranges.0, h.ranges.1); contract = l.contract; few = (h.ranges.3, l.few.written) }
 
 pub returns : goal.returns
@@ -79,8 +79,8 @@ returns g c =
     let lots = c.args.lots in
     let limit = c.args.limit in
     let m : Meaning = meaning g.S.LegScale.leg_of g.S.CombinationScale.pair_of c.args.scale.now in
-    let h = c.in-ok-listed.ensures in
-    let x = c.in-ok-answer.answer in
-    let after = c.lock-lots.new.self.tables in
+    let h = c.in_ok-listed.ensures in
+    let x = c.in_ok-answer.answer in
+    let after = c.lock_lots.new.self.tables in
     answered m b (BuyClose a code lots limit) (Ok x) after
-    (locked b a code lots limit (buy_close m b a code lots limit) h.tests c.in-ok-check-free-lots.ensures c.premium-reserve.result (unit_amount b code lots c.in-ok-listed.listed h.found limit c.premium-reserve.result c.premium-reserve.ensures.reserve) (locking_written lots) refl x c.enter.new.self.tables after c.in-ok-answer.ensures c.lock-lots.ensures)
+    (locked b a code lots limit (buy_close m b a code lots limit) h.tests c.in_ok-check_free_lots.ensures c.premium-reserve.result (unit_amount b code lots c.in_ok-listed.listed h.found limit c.premium-reserve.result c.premium-reserve.ensures.reserve) (locking_written lots) refl x c.enter.new.self.tables after c.in_ok-answer.ensures c.lock_lots.ensures)

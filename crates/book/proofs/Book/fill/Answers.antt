@@ -19,14 +19,14 @@ use Rattle.book.proofs.Lawful.{combination_sound, order_sound, funds_within, lot
 use Rattle.book.proofs.Filling.{past_terms, no_lots, no_price, none_stands, traded_as}
 use Rattle.book.proofs.Book.fill.Goals as goal
 
-pub check-fill-requires : goal.check-fill-requires
-check-fill-requires g c =
+pub check_fill-requires : goal.check_fill-requires
+check_fill-requires g c =
     let m : Meaning = meaning g.S.LegScale.leg_of g.S.CombinationScale.pair_of c.args.scale.now in
     let b = c.args.self.now.tables in
     let lots = c.args.lots in
     let price = c.args.price in
-    let k = c.requires.its-scale in
-    record { lots = (within 1 1000 lots (unmet (bad_lots lots ∷ []) c.in-ok-check-lots.ensures).0).1; price = (within 1 10000000 price (unmet (bad_price price ∷ []) c.in-ok-check-price.ensures).0).1; funds = funds_within m b k.0 k.1 }
+    let k = c.requires.its_scale in
+    record { lots = (within 1 1000 lots (unmet (bad_lots lots ∷ []) c.in_ok-check_lots.ensures).0).1; price = (within 1 10000000 price (unmet (bad_price price ∷ []) c.in_ok-check_price.ensures).0).1; funds = funds_within m b k.0 k.1 }
 
 pub trade-requires : goal.trade-requires
 trade-requires g c =
@@ -34,65 +34,65 @@ trade-requires g c =
     let b = c.args.self.now.tables in
     let lots = c.args.lots in
     let price = c.args.price in
-    let k = c.requires.its-scale in
+    let k = c.requires.its_scale in
     let entry = c.in-Some.entry in
     let s = order_sound m b k.0 k.1 c.args.order entry (sym c.in-Some.ensures) in
     let room = lots_within m b k.0 k.1 entry.account (contract_of entry.kind) s.contract.0 s.account.0 s.account.1 s.contract.1 in
-    let same = c.take-off-order.ensures in
+    let same = c.take_off_order.ensures in
     record {
       account = s.account;
       contract = subst (λ cs. Listed cs (contract_of entry.kind)) (sym (ap contracts_of same)) s.contract;
-      lots = (within 1 1000 lots (unmet (bad_lots lots ∷ []) c.in-ok-check-lots.ensures).0).1;
-      price = (within 1 10000000 price (unmet (bad_price price ∷ []) c.in-ok-check-price.ensures).0).1;
+      lots = (within 1 1000 lots (unmet (bad_lots lots ∷ []) c.in_ok-check_lots.ensures).0).1;
+      price = (within 1 10000000 price (unmet (bad_price price ∷ []) c.in_ok-check_price.ensures).0).1;
       limit = s.limit.1;
       funds = subst FundsWithin (sym (ap (λ (t : Tables). t.funds) same)) (funds_within m b k.0 k.1);
       combinations = subst AllSound (sym same) (combination_sound m b k.0 k.1);
       room = subst (λ (t : Tables). ((position_of t entry.account (contract_of entry.kind)).bought ≤ 10000) × ((position_of t entry.account (contract_of entry.kind)).written ≤ 10000)) (sym same) room;
     }
 
-pub returns-in-default : goal.returns-in-default
-returns-in-default g c =
+pub returns-in_default : goal.returns-in_default
+returns-in_default g c =
     let m : Meaning = meaning g.S.LegScale.leg_of g.S.CombinationScale.pair_of c.args.scale.now in
     let b = c.args.self.now.tables in
     let n = c.args.order in
     let lots = c.args.lots in
     let price = c.args.price in
-    let tests = none_stands m b lots price c.in-ok-check-lots.ensures c.in-ok-check-price.ensures in
-    let a : FillRule m b n lots price (Err NotStanding) b = (subst (λ o. first_met (fill_tests m b o lots price) ≡ Some 16) c.in-default.ensures tests, refl) in
+    let tests = none_stands m b lots price c.in_ok-check_lots.ensures c.in_ok-check_price.ensures in
+    let a : FillRule m b n lots price (Err NotStanding) b = (subst (λ o. first_met (fill_tests m b o lots price) ≡ Some 16) c.in_default.ensures tests, refl) in
     answered m b (Fill n lots price) (Err NotStanding) b a
 
-pub returns-in-err-check-lots : goal.returns-in-err-check-lots
-returns-in-err-check-lots g c =
+pub returns-in_err-check_lots : goal.returns-in_err-check_lots
+returns-in_err-check_lots g c =
     let m : Meaning = meaning g.S.LegScale.leg_of g.S.CombinationScale.pair_of c.args.scale.now in
     let b = c.args.self.now.tables in
     let n = c.args.order in
     let lots = c.args.lots in
     let price = c.args.price in
-    let e = c.in-err-check-lots.field-0.0 in
-    let a : FillRule m b n lots price (Err e) b = (no_lots m b lots price (lookup b.orders n) (number_of e) c.in-err-check-lots.ensures, refl) in
-    passed_on m b (Fill n lots price) c.from-residual.result e b c.from-residual.ensures.1 a
+    let e = c.in_err-check_lots.field-0.0 in
+    let a : FillRule m b n lots price (Err e) b = (no_lots m b lots price (lookup b.orders n) (number_of e) c.in_err-check_lots.ensures, refl) in
+    passed_on m b (Fill n lots price) c.from_residual.result e b c.from_residual.ensures.1 a
 
-pub returns-in-err-check-price : goal.returns-in-err-check-price
-returns-in-err-check-price g c =
+pub returns-in_err-check_price : goal.returns-in_err-check_price
+returns-in_err-check_price g c =
     let m : Meaning = meaning g.S.LegScale.leg_of g.S.CombinationScale.pair_of c.args.scale.now in
     let b = c.args.self.now.tables in
     let n = c.args.order in
     let lots = c.args.lots in
     let price = c.args.price in
-    let e = c.in-err-check-price.field-0.0 in
-    let a : FillRule m b n lots price (Err e) b = (no_price m b lots price (lookup b.orders n) (number_of e) c.in-ok-check-lots.ensures c.in-err-check-price.ensures, refl) in
-    passed_on m b (Fill n lots price) c.from-residual-in-err-check-price.result e b c.from-residual-in-err-check-price.ensures.1 a
+    let e = c.in_err-check_price.field-0.0 in
+    let a : FillRule m b n lots price (Err e) b = (no_price m b lots price (lookup b.orders n) (number_of e) c.in_ok-check_lots.ensures c.in_err-check_price.ensures, refl) in
+    passed_on m b (Fill n lots price) c.from_residual-in_err-check_price.result e b c.from_residual-in_err-check_price.ensures.1 a
 
-pub returns-in-err-check-fill : goal.returns-in-err-check-fill
-returns-in-err-check-fill g c =
+pub returns-in_err-check_fill : goal.returns-in_err-check_fill
+returns-in_err-check_fill g c =
     let m : Meaning = meaning g.S.LegScale.leg_of g.S.CombinationScale.pair_of c.args.scale.now in
     let b = c.args.self.now.tables in
     let n = c.args.order in
     let lots = c.args.lots in
     let price = c.args.price in
-    let e = c.in-err-check-fill.field-0.0 in
-    let a : FillRule m b n lots price (Err e) b = (subst (λ o. first_met (fill_tests m b o lots price) ≡ Some (number_of e)) c.in-Some.ensures (past_terms m b lots price c.in-Some.entry c.in-ok-check-lots.ensures c.in-ok-check-price.ensures ∙ c.in-err-check-fill.ensures), refl) in
-    passed_on m b (Fill n lots price) c.from-residual-in-err-check-fill.result e b c.from-residual-in-err-check-fill.ensures.1 a
+    let e = c.in_err-check_fill.field-0.0 in
+    let a : FillRule m b n lots price (Err e) b = (subst (λ o. first_met (fill_tests m b o lots price) ≡ Some (number_of e)) c.in-Some.ensures (past_terms m b lots price c.in-Some.entry c.in_ok-check_lots.ensures c.in_ok-check_price.ensures ∙ c.in_err-check_fill.ensures), refl) in
+    passed_on m b (Fill n lots price) c.from_residual-in_err-check_fill.result e b c.from_residual-in_err-check_fill.ensures.1 a
 
 pub returns : goal.returns
 returns g c =
@@ -106,8 +106,8 @@ returns g c =
     let r : Answer = Ok (0, after.funds.balance) in
     let rows = order_rest n lots entry b.orders in
     let to : Order → Tables = λ x. traded m b x x.kind lots price (orders_to (order_rest n lots x b.orders) b.order_series b) in
-    let is : after ≡ to entry = c.trade.ensures ∙ ap (λ t. traded m t entry entry.kind lots price t) c.take-off-order.ensures ∙ traded_as m b lots price rows entry.kind entry in
-    let tests = past_terms m b lots price entry c.in-ok-check-lots.ensures c.in-ok-check-price.ensures ∙ c.in-ok-check-fill.ensures in
+    let is : after ≡ to entry = c.trade.ensures ∙ ap (λ t. traded m t entry entry.kind lots price t) c.take_off_order.ensures ∙ traded_as m b lots price rows entry.kind entry in
+    let tests = past_terms m b lots price entry c.in_ok-check_lots.ensures c.in_ok-check_price.ensures ∙ c.in_ok-check_fill.ensures in
     let P : Option Order → Type 0 = λ o. (first_met (fill_tests m b o lots price) ≡ None) × Standing o (λ x. answers 0 (to x) r after) in
     let a : FillRule m b n lots price r after = subst P c.in-Some.ensures (tests, (is, ap (λ (t : Tables). Ok (0, t.funds.balance)) is)) in
     answered m b (Fill n lots price) r after a

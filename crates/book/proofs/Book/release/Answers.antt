@@ -18,29 +18,29 @@ use Rattle.book.proofs.Pricing.{pair_is, legs_are}
 use Rattle.book.proofs.Releasing.{no_lots, none_stands, too_few, past_lots, released_as}
 use Rattle.book.proofs.Book.release.Goals as goal
 
-pub check-free-requires : goal.check-free-requires
-check-free-requires g c = (within 1 1000 c.args.lots (unmet (bad_lots c.args.lots ∷ []) c.in-ok-check-lots.ensures).0).0
+pub check_free-requires : goal.check_free-requires
+check_free-requires g c = (within 1 1000 c.args.lots (unmet (bad_lots c.args.lots ∷ []) c.in_ok-check_lots.ensures).0).0
 
-pub fitted-pair-pair-requires : goal.fitted-pair-pair-requires
-fitted-pair-pair-requires g c =
+pub fitted_pair-pair-requires : goal.fitted_pair-pair-requires
+fitted_pair-pair-requires g c =
     let m : Meaning = meaning g.S.LegScale.leg_of g.S.CombinationScale.pair_of c.args.scale.now in
     let b = c.args.self.now.tables in
     let n = c.args.combination in
     let lots = c.args.lots in
-    let k = c.requires.its-scale in
+    let k = c.requires.its_scale in
     let entry = c.in-Some.entry in
     let s = combination_sound m b k.0 k.1 n entry (sym c.in-Some.ensures) in
     s.fitted
 
 pub times-back-requires : goal.times-back-requires
 times-back-requires g c =
-    let most = g.met.S.CombinationScale.pair_at_most c.args.scale.now c.fitted-pair-pair.result.strategy c.fitted-pair-pair.result.first c.fitted-pair-pair.result.second c.fitted-pair-pair.result.fitted in
-    record { lots = (within 1 1000 c.args.lots (unmet (bad_lots c.args.lots ∷ []) c.in-ok-check-lots.ensures).0).1; per_lot = omega (arith, c.pair.ensures, most) }
+    let most = g.met.S.CombinationScale.pair_at_most c.args.scale.now c.fitted_pair-pair.result.strategy c.fitted_pair-pair.result.first c.fitted_pair-pair.result.second c.fitted_pair-pair.result.fitted in
+    record { lots = (within 1 1000 c.args.lots (unmet (bad_lots c.args.lots ∷ []) c.in_ok-check_lots.ensures).0).1; per_lot = omega (arith, c.pair.ensures, most) }
 
 pub times-taken-requires : goal.times-taken-requires
 times-taken-requires g c =
-    let most = legs_sum_le (g.S.LegScale.leg_of c.args.scale.now) (g.met.S.LegScale.leg_at_most c.args.scale.now) c.fitted-pair-pair.result.strategy c.fitted-pair-pair.result.first c.fitted-pair-pair.result.second in
-    record { lots = (within 1 1000 c.args.lots (unmet (bad_lots c.args.lots ∷ []) c.in-ok-check-lots.ensures).0).1; per_lot = omega (arith, c.legs_sum.ensures, most) }
+    let most = legs_sum_le (g.S.LegScale.leg_of c.args.scale.now) (g.met.S.LegScale.leg_at_most c.args.scale.now) c.fitted_pair-pair.result.strategy c.fitted_pair-pair.result.first c.fitted_pair-pair.result.second in
+    record { lots = (within 1 1000 c.args.lots (unmet (bad_lots c.args.lots ∷ []) c.in_ok-check_lots.ensures).0).1; per_lot = omega (arith, c.legs_sum.ensures, most) }
 
 pub regroup-requires : goal.regroup-requires
 regroup-requires g c =
@@ -48,75 +48,75 @@ regroup-requires g c =
     let b = c.args.self.now.tables in
     let n = c.args.combination in
     let lots = c.args.lots in
-    let k = c.requires.its-scale in
+    let k = c.requires.its_scale in
     record { funds = funds_within m b k.0 k.1; back = omega (arith, c.times-back.ensures.most); taken = omega (arith, c.times-taken.ensures.most) }
 
-pub unlock-first-requires : goal.unlock-first-requires
-unlock-first-requires g c =
+pub unlock_first-requires : goal.unlock_first-requires
+unlock_first-requires g c =
     let m : Meaning = meaning g.S.LegScale.leg_of g.S.CombinationScale.pair_of c.args.scale.now in
     let b = c.args.self.now.tables in
     let n = c.args.combination in
     let lots = c.args.lots in
-    let k = c.requires.its-scale in
+    let k = c.requires.its_scale in
     let entry = c.in-Some.entry in
     let s = combination_sound m b k.0 k.1 n entry (sym c.in-Some.ensures) in
-    let contracts = ap contracts_of c.take-off-combination.ensures ∙ ap contracts_of c.regroup.ensures in
+    let contracts = ap contracts_of c.take_off_combination.ensures ∙ ap contracts_of c.regroup.ensures in
     record { account = s.account; contract = subst (λ cs. Listed cs entry.first) (sym contracts) (s.fitted.first, s.fitted.first_listed) }
 
-pub unlock-lots-requires : goal.unlock-lots-requires
-unlock-lots-requires g c =
+pub unlock_lots-requires : goal.unlock_lots-requires
+unlock_lots-requires g c =
     let m : Meaning = meaning g.S.LegScale.leg_of g.S.CombinationScale.pair_of c.args.scale.now in
     let b = c.args.self.now.tables in
     let n = c.args.combination in
     let lots = c.args.lots in
-    let k = c.requires.its-scale in
+    let k = c.requires.its_scale in
     let entry = c.in-Some.entry in
     let s = combination_sound m b k.0 k.1 n entry (sym c.in-Some.ensures) in
-    let contracts = ap contracts_of c.unlock_first.ensures ∙ ap contracts_of c.take-off-combination.ensures ∙ ap contracts_of c.regroup.ensures in
+    let contracts = ap contracts_of c.unlock_first.ensures ∙ ap contracts_of c.take_off_combination.ensures ∙ ap contracts_of c.regroup.ensures in
     record { account = s.account; contract = subst (λ cs. Listed cs entry.second) (sym contracts) (s.fitted.second, s.fitted.second_listed) }
 
-pub returns-in-default : goal.returns-in-default
-returns-in-default g c =
+pub returns-in_default : goal.returns-in_default
+returns-in_default g c =
     let m : Meaning = meaning g.S.LegScale.leg_of g.S.CombinationScale.pair_of c.args.scale.now in
     let b = c.args.self.now.tables in
     let n = c.args.combination in
     let lots = c.args.lots in
-    let a : ReleaseRule m b n lots (Err NotStanding) b = (subst (λ o. first_met (release_tests m b o lots) ≡ Some 16) c.in-default.ensures (none_stands m b lots c.in-ok-check-lots.ensures), refl) in
+    let a : ReleaseRule m b n lots (Err NotStanding) b = (subst (λ o. first_met (release_tests m b o lots) ≡ Some 16) c.in_default.ensures (none_stands m b lots c.in_ok-check_lots.ensures), refl) in
     answered m b (Release n lots) (Err NotStanding) b a
 
-pub returns-in-err-check-lots : goal.returns-in-err-check-lots
-returns-in-err-check-lots g c =
+pub returns-in_err-check_lots : goal.returns-in_err-check_lots
+returns-in_err-check_lots g c =
     let m : Meaning = meaning g.S.LegScale.leg_of g.S.CombinationScale.pair_of c.args.scale.now in
     let b = c.args.self.now.tables in
     let n = c.args.combination in
     let lots = c.args.lots in
-    let e = c.in-err-check-lots.field-0.0 in
-    let a : ReleaseRule m b n lots (Err e) b = (no_lots m b lots (lookup b.combinations n) (number_of e) c.in-err-check-lots.ensures, refl) in
-    passed_on m b (Release n lots) c.from-residual.result e b c.from-residual.ensures.1 a
+    let e = c.in_err-check_lots.field-0.0 in
+    let a : ReleaseRule m b n lots (Err e) b = (no_lots m b lots (lookup b.combinations n) (number_of e) c.in_err-check_lots.ensures, refl) in
+    passed_on m b (Release n lots) c.from_residual.result e b c.from_residual.ensures.1 a
 
-pub returns-in-err-check-free : goal.returns-in-err-check-free
-returns-in-err-check-free g c =
+pub returns-in_err-check_free : goal.returns-in_err-check_free
+returns-in_err-check_free g c =
     let m : Meaning = meaning g.S.LegScale.leg_of g.S.CombinationScale.pair_of c.args.scale.now in
     let b = c.args.self.now.tables in
     let n = c.args.combination in
     let lots = c.args.lots in
     let entry = c.in-Some.entry in
-    let e = c.in-err-check-free.field-0.0 in
-    let a : ReleaseRule m b n lots (Err e) b = (subst (λ o. first_met (release_tests m b o lots) ≡ Some (number_of e)) c.in-Some.ensures (too_few m b lots c.in-ok-check-lots.ensures entry (number_of e) c.in-err-check-free.ensures), refl) in
-    passed_on m b (Release n lots) c.from-residual-in-err-check-free.result e b c.from-residual-in-err-check-free.ensures.1 a
+    let e = c.in_err-check_free.field-0.0 in
+    let a : ReleaseRule m b n lots (Err e) b = (subst (λ o. first_met (release_tests m b o lots) ≡ Some (number_of e)) c.in-Some.ensures (too_few m b lots c.in_ok-check_lots.ensures entry (number_of e) c.in_err-check_free.ensures), refl) in
+    passed_on m b (Release n lots) c.from_residual-in_err-check_free.result e b c.from_residual-in_err-check_free.ensures.1 a
 
-pub returns-in-err-check-balance : goal.returns-in-err-check-balance
-returns-in-err-check-balance g c =
+pub returns-in_err-check_balance : goal.returns-in_err-check_balance
+returns-in_err-check_balance g c =
     let m : Meaning = meaning g.S.LegScale.leg_of g.S.CombinationScale.pair_of c.args.scale.now in
     let b = c.args.self.now.tables in
     let n = c.args.combination in
     let lots = c.args.lots in
     let entry = c.in-Some.entry in
-    let back = c.times-back.ensures.is ∙ ap (λ x. lots * x) (pair_is m (contracts_of b) entry c.fitted-pair-pair.result c.fitted-pair-pair.ensures c.pair.result c.pair.ensures) in
-    let taken = c.times-taken.ensures.is ∙ ap (λ x. lots * x) (legs_are m (contracts_of b) entry c.fitted-pair-pair.result c.fitted-pair-pair.ensures c.legs_sum.result c.legs_sum.ensures) in
-    let e = c.in-err-check-balance.field-0.0 in
-    let a : ReleaseRule m b n lots (Err e) b = (subst (λ o. first_met (release_tests m b o lots) ≡ Some (number_of e)) c.in-Some.ensures (past_lots m b lots c.in-ok-check-lots.ensures entry c.times-back.result c.times-taken.result back taken c.in-ok-check-free.ensures ∙ c.in-err-check-balance.ensures), refl) in
-    passed_on m b (Release n lots) c.from-residual-in-err-check-balance.result e b c.from-residual-in-err-check-balance.ensures.1 a
+    let back = c.times-back.ensures.is ∙ ap (λ x. lots * x) (pair_is m (contracts_of b) entry c.fitted_pair-pair.result c.fitted_pair-pair.ensures c.pair.result c.pair.ensures) in
+    let taken = c.times-taken.ensures.is ∙ ap (λ x. lots * x) (legs_are m (contracts_of b) entry c.fitted_pair-pair.result c.fitted_pair-pair.ensures c.legs_sum.result c.legs_sum.ensures) in
+    let e = c.in_err-check_balance.field-0.0 in
+    let a : ReleaseRule m b n lots (Err e) b = (subst (λ o. first_met (release_tests m b o lots) ≡ Some (number_of e)) c.in-Some.ensures (past_lots m b lots c.in_ok-check_lots.ensures entry c.times-back.result c.times-taken.result back taken c.in_ok-check_free.ensures ∙ c.in_err-check_balance.ensures), refl) in
+    passed_on m b (Release n lots) c.from_residual-in_err-check_balance.result e b c.from_residual-in_err-check_balance.ensures.1 a
 
 pub returns : goal.returns
 returns g c =
@@ -125,12 +125,12 @@ returns g c =
     let n = c.args.combination in
     let lots = c.args.lots in
     let entry = c.in-Some.entry in
-    let back = c.times-back.ensures.is ∙ ap (λ x. lots * x) (pair_is m (contracts_of b) entry c.fitted-pair-pair.result c.fitted-pair-pair.ensures c.pair.result c.pair.ensures) in
-    let taken = c.times-taken.ensures.is ∙ ap (λ x. lots * x) (legs_are m (contracts_of b) entry c.fitted-pair-pair.result c.fitted-pair-pair.ensures c.legs_sum.result c.legs_sum.ensures) in
-    let after = c.unlock-lots.new.self.tables in
+    let back = c.times-back.ensures.is ∙ ap (λ x. lots * x) (pair_is m (contracts_of b) entry c.fitted_pair-pair.result c.fitted_pair-pair.ensures c.pair.result c.pair.ensures) in
+    let taken = c.times-taken.ensures.is ∙ ap (λ x. lots * x) (legs_are m (contracts_of b) entry c.fitted_pair-pair.result c.fitted_pair-pair.ensures c.legs_sum.result c.legs_sum.ensures) in
+    let after = c.unlock_lots.new.self.tables in
     let r : Answer = Ok (0, after.funds.balance) in
-    let is : after ≡ released m b n lots entry = released_as m b lots c.in-ok-check-lots.ensures entry n c.times-back.result c.times-taken.result c.regroup.new.self.tables c.take-off-combination.new.self.tables c.unlock_first.new.self.tables after back taken c.regroup.ensures c.take-off-combination.ensures c.unlock_first.ensures c.unlock-lots.ensures in
-    let tests = past_lots m b lots c.in-ok-check-lots.ensures entry c.times-back.result c.times-taken.result back taken c.in-ok-check-free.ensures ∙ c.in-ok-check-balance.ensures in
+    let is : after ≡ released m b n lots entry = released_as m b lots c.in_ok-check_lots.ensures entry n c.times-back.result c.times-taken.result c.regroup.new.self.tables c.take_off_combination.new.self.tables c.unlock_first.new.self.tables after back taken c.regroup.ensures c.take_off_combination.ensures c.unlock_first.ensures c.unlock_lots.ensures in
+    let tests = past_lots m b lots c.in_ok-check_lots.ensures entry c.times-back.result c.times-taken.result back taken c.in_ok-check_free.ensures ∙ c.in_ok-check_balance.ensures in
     let P : Option Combination → Type 0 = λ o. (first_met (release_tests m b o lots) ≡ None) × Standing o (λ x. answers 0 (released m b n lots x) r after) in
     let a : ReleaseRule m b n lots r after = subst P c.in-Some.ensures (tests, (is, ap (λ (t : Tables). Ok (0, t.funds.balance)) is)) in
     answered m b (Release n lots) r after a

@@ -9,7 +9,7 @@ use Rattle.book.proofs.Playing.{none_played, one_more}
 use Rattle.book.proofs.Book.run.Goals as goal
 
 pub loop-call-init : goal.loop-call-init
-loop-call-init g c = (c.requires.its-scale, none_played (meaning g.S.LegScale.leg_of g.S.CombinationScale.pair_of c.args.scale.now) c.args.self.now.tables)
+loop-call-init g c = (c.requires.its_scale, none_played (meaning g.S.LegScale.leg_of g.S.CombinationScale.pair_of c.args.scale.now) c.args.self.now.tables)
 
 pub loop-call-preserved : goal.loop-call-preserved
 loop-call-preserved g c =

@@ -13,4 +13,4 @@ pub returns-else-combination-lots : goal.returns-else-combination-lots
 returns-else-combination-lots c =
     let b = c.args.self.now.tables in
     ap (λ rows. combinations_to rows b.combination_series b)
-    (combination_left c.args.number c.args.lots c.args.engaged c.args.combination.now b.combinations c.change.new.rows c.if-combination-lots.false c.saturating-sub.result c.saturating-sub.ensures c.change.ensures.leaves)
+    (combination_left c.args.number c.args.lots c.args.engaged c.args.combination.now b.combinations c.change.new.rows c.if-combination-lots.false c.saturating_sub.result c.saturating_sub.ensures c.change.ensures.leaves)

@@ -8,27 +8,27 @@ use Rattle.book.proofs.LegFilling.{second_closed, first_closed}
 use Rattle.book.proofs.Pricing.{pair_is}
 use Rattle.book.proofs.Book.trade_leg.Goals as goal
 
-pub returns-in-default : goal.returns-in-default
-returns-in-default g c =
+pub returns-in_default : goal.returns-in_default
+returns-in_default g c =
     let m : Meaning = meaning g.S.LegScale.leg_of g.S.CombinationScale.pair_of c.args.scale.now in
     let b = c.args.self.now.tables in
-    ap (leg_traded m b c.args.order.now c.args.number c.args.leg c.args.lots c.args.price b) c.in-default.ensures
+    ap (leg_traded m b c.args.order.now c.args.number c.args.leg c.args.lots c.args.price b) c.in_default.ensures
 
-pub fitted-pair-pair-requires : goal.fitted-pair-pair-requires
-fitted-pair-pair-requires g c = (c.requires.combinations c.args.number c.in-Some.combination (sym c.in-Some.ensures)).fitted
+pub fitted_pair-pair-requires : goal.fitted_pair-pair-requires
+fitted_pair-pair-requires g c = (c.requires.combinations c.args.number c.in-Some.combination (sym c.in-Some.ensures)).fitted
 
-pub leg-close-reserve-requires : goal.leg-close-reserve-requires
-leg-close-reserve-requires g c = record { fitted = (c.requires.combinations c.args.number c.in-Some.combination (sym c.in-Some.ensures)).fitted; limit = c.requires.limit }
+pub leg_close_reserve-requires : goal.leg_close_reserve-requires
+leg_close_reserve-requires g c = record { fitted = (c.requires.combinations c.args.number c.in-Some.combination (sym c.in-Some.ensures)).fitted; limit = c.requires.limit }
 
 pub times-reserve-requires : goal.times-reserve-requires
 times-reserve-requires g c = record { lots = c.requires.lots; per_lot = c.leg_close_reserve.ensures.most }
 
-pub premium-of-paid-requires : goal.premium-of-paid-requires
-premium-of-paid-requires g c = record { lots = c.requires.lots; price = c.requires.price }
+pub premium_of-paid-requires : goal.premium_of-paid-requires
+premium_of-paid-requires g c = record { lots = c.requires.lots; price = c.requires.price }
 
 pub times-back-requires : goal.times-back-requires
 times-back-requires g c =
-    let pair = c.fitted-pair-pair.result in
+    let pair = c.fitted_pair-pair.result in
     let most = g.met.S.CombinationScale.pair_at_most c.args.scale.now pair.strategy pair.first pair.second pair.fitted in
     record { lots = c.requires.lots; per_lot = omega (arith, c.pair.ensures, most) }
 
@@ -44,20 +44,20 @@ settle-requires g c = record {
   taken = omega (arith, c.times-taken.ensures.most);
 }
 
-pub close-lots-requires : goal.close-lots-requires
-close-lots-requires g c =
-    let contracts = ap contracts_of c.take-off-combination.ensures ∙ ap contracts_of c.settle.ensures in
+pub close_lots-requires : goal.close_lots-requires
+close_lots-requires g c =
+    let contracts = ap contracts_of c.take_off_combination.ensures ∙ ap contracts_of c.settle.ensures in
     record { account = c.requires.account; contract = subst (λ cs. Listed cs c.args.leg) (sym contracts) c.requires.contract }
 
-pub unlock-first-requires : goal.unlock-first-requires
-unlock-first-requires g c =
-    let contracts = ap contracts_of c.close-lots.ensures ∙ ap contracts_of c.take-off-combination.ensures ∙ ap contracts_of c.settle.ensures in
+pub unlock_first-requires : goal.unlock_first-requires
+unlock_first-requires g c =
+    let contracts = ap contracts_of c.close_lots.ensures ∙ ap contracts_of c.take_off_combination.ensures ∙ ap contracts_of c.settle.ensures in
     let s = c.requires.combinations c.args.number c.in-Some.combination (sym c.in-Some.ensures) in
     record { account = s.account; contract = subst (λ cs. Listed cs c.in-Some.combination.first) (sym contracts) (s.fitted.first, s.fitted.first_listed) }
 
-pub unlock-lots-requires : goal.unlock-lots-requires
-unlock-lots-requires g c =
-    let contracts = ap contracts_of c.close-lots.ensures ∙ ap contracts_of c.take-off-combination.ensures ∙ ap contracts_of c.settle.ensures in
+pub unlock_lots-requires : goal.unlock_lots-requires
+unlock_lots-requires g c =
+    let contracts = ap contracts_of c.close_lots.ensures ∙ ap contracts_of c.take_off_combination.ensures ∙ ap contracts_of c.settle.ensures in
     let s = c.requires.combinations c.args.number c.in-Some.combination (sym c.in-Some.ensures) in
     record { account = s.account; contract = subst (λ cs. Listed cs c.in-Some.combination.second) (sym contracts) (s.fitted.second, s.fitted.second_listed) }
 
@@ -67,15 +67,15 @@ returns-then-leg-combination g c =
     let b = c.args.self.now.tables in
     let lots = c.args.lots in
     let k = c.in-Some.combination in
-    let amounts : Amounts (leg_flow m b c.args.leg c.args.order.now.limit lots c.args.price (Some k)) c.times-reserve.result 0 c.premium-of-paid.result c.times-back.result c.times-taken.result = record {
+    let amounts : Amounts (leg_flow m b c.args.leg c.args.order.now.limit lots c.args.price (Some k)) c.times-reserve.result 0 c.premium_of-paid.result c.times-back.result c.times-taken.result = record {
       reserve_is = c.times-reserve.ensures.is ∙ ap (λ x. lots * x) c.leg_close_reserve.ensures.is;
       received_is = refl;
-      paid_is = c.premium-of-paid.ensures.premium;
-      back_is = c.times-back.ensures.is ∙ ap (λ x. lots * x) (pair_is m (contracts_of b) k c.fitted-pair-pair.result c.fitted-pair-pair.ensures c.pair.result c.pair.ensures);
+      paid_is = c.premium_of-paid.ensures.premium;
+      back_is = c.times-back.ensures.is ∙ ap (λ x. lots * x) (pair_is m (contracts_of b) k c.fitted_pair-pair.result c.fitted_pair-pair.ensures c.pair.result c.pair.ensures);
       taken_is = c.times-taken.ensures.is ∙ ap (λ x. lots * x) c.other_leg_margin.ensures.is;
     } in
-    second_closed m b c.args.order.now c.args.number c.args.leg lots c.args.price k c.in-Some.ensures c.times-reserve.result c.premium-of-paid.result c.times-back.result c.times-taken.result amounts
-    c.settle.new.self.tables c.take-off-combination.new.self.tables c.close-lots.new.self.tables c.settle.ensures c.take-off-combination.ensures c.close-lots.ensures
+    second_closed m b c.args.order.now c.args.number c.args.leg lots c.args.price k c.in-Some.ensures c.times-reserve.result c.premium_of-paid.result c.times-back.result c.times-taken.result amounts
+    c.settle.new.self.tables c.take_off_combination.new.self.tables c.close_lots.new.self.tables c.settle.ensures c.take_off_combination.ensures c.close_lots.ensures
     c.unlock_first.new.self.tables c.if-leg-combination.true c.unlock_first.ensures
 
 pub returns-else-leg-combination : goal.returns-else-leg-combination
@@ -84,13 +84,13 @@ returns-else-leg-combination g c =
     let b = c.args.self.now.tables in
     let lots = c.args.lots in
     let k = c.in-Some.combination in
-    let amounts : Amounts (leg_flow m b c.args.leg c.args.order.now.limit lots c.args.price (Some k)) c.times-reserve.result 0 c.premium-of-paid.result c.times-back.result c.times-taken.result = record {
+    let amounts : Amounts (leg_flow m b c.args.leg c.args.order.now.limit lots c.args.price (Some k)) c.times-reserve.result 0 c.premium_of-paid.result c.times-back.result c.times-taken.result = record {
       reserve_is = c.times-reserve.ensures.is ∙ ap (λ x. lots * x) c.leg_close_reserve.ensures.is;
       received_is = refl;
-      paid_is = c.premium-of-paid.ensures.premium;
-      back_is = c.times-back.ensures.is ∙ ap (λ x. lots * x) (pair_is m (contracts_of b) k c.fitted-pair-pair.result c.fitted-pair-pair.ensures c.pair.result c.pair.ensures);
+      paid_is = c.premium_of-paid.ensures.premium;
+      back_is = c.times-back.ensures.is ∙ ap (λ x. lots * x) (pair_is m (contracts_of b) k c.fitted_pair-pair.result c.fitted_pair-pair.ensures c.pair.result c.pair.ensures);
       taken_is = c.times-taken.ensures.is ∙ ap (λ x. lots * x) c.other_leg_margin.ensures.is;
     } in
-    first_closed m b c.args.order.now c.args.number c.args.leg lots c.args.price k c.in-Some.ensures c.times-reserve.result c.premium-of-paid.result c.times-back.result c.times-taken.result amounts
-    c.settle.new.self.tables c.take-off-combination.new.self.tables c.close-lots.new.self.tables c.settle.ensures c.take-off-combination.ensures c.close-lots.ensures
-    c.unlock-lots.new.self.tables c.if-leg-combination.false c.unlock-lots.ensures
+    first_closed m b c.args.order.now c.args.number c.args.leg lots c.args.price k c.in-Some.ensures c.times-reserve.result c.premium_of-paid.result c.times-back.result c.times-taken.result amounts
+    c.settle.new.self.tables c.take_off_combination.new.self.tables c.close_lots.new.self.tables c.settle.ensures c.take_off_combination.ensures c.close_lots.ensures
+    c.unlock_lots.new.self.tables c.if-leg-combination.false c.unlock_lots.ensures

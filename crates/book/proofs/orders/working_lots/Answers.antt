@@ -6,16 +6,16 @@ use Rattle.book.proofs.Working.{in_use_row, free_row}
 use Rattle.book.proofs.orders.working_lots.Goals as goal
 use Rattle.book.proofs.orders.working_lots.Goals.{then-row-ne-FREE, else-row-ne-FREE}
 
-pub overflow-add-working : goal.overflow-add-working
-overflow-add-working c = omega (arith, c.loop-row.invariant.1, c.lots-opened.type-inv, c.requires)
+pub overflow_add-working : goal.overflow_add-working
+overflow_add-working c = omega (arith, c.loop-row.invariant.1, c.lots_opened.type_inv, c.requires)
 
 pub loop-row-preserved : goal.loop-row-preserved
 loop-row-preserved c =
     let f = opens c.args.side c.args.account c.args.contract in
     elim c.if-row-ne-FREE.branch [
       | then-row-ne-FREE w ↦ (
-        omega (arith, w.working-is, w.lots-opened.ensures.is, c.loop-row.invariant.0, in_use_row c.args.rows.now c.loop-row.row-index f c.loop-row-test.true w.if-row-ne-FREE.true),
-        omega (arith, w.working-is, w.lots-opened.type-inv, c.loop-row.invariant.1),
+        omega (arith, w.working-is, w.lots_opened.ensures.is, c.loop-row.invariant.0, in_use_row c.args.rows.now c.loop-row.row-index f c.loop-row-test.true w.if-row-ne-FREE.true),
+        omega (arith, w.working-is, w.lots_opened.type_inv, c.loop-row.invariant.1),
       )
       | else-row-ne-FREE w ↦ (
         omega (arith, w.working-is, c.loop-row.invariant.0, free_row c.args.rows.now c.loop-row.row-index f c.loop-row-test.true w.if-row-ne-FREE.false),

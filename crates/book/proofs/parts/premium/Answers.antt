@@ -2,8 +2,8 @@ use Rattle.std.proofs.Common.{◌≡◌, ◌*◌, ◌≤◌, sym, refl, mul_asso
 use Rattle.std.proofs.lemmas.Nat.{mul-le}
 use Rattle.book.proofs.parts.premium.Goals as goal
 
-pub overflow-mul-result-2 : goal.overflow-mul-result-2
-overflow-mul-result-2 c =
+pub overflow_mul-result-2 : goal.overflow_mul-result-2
+overflow_mul-result-2 c =
     let one : c.args.price * c.args.contract.now.unit ≤ 10000000000000 = mul-le _ _ 10000000 1000000 c.requires.price c.args.contract.now.unit_in_range.1 in
     let all : c.args.lots * (c.args.price * c.args.contract.now.unit) ≤ 10000000000000000 = mul-le _ _ 1000 10000000000000 c.requires.lots one in
     omega (arith, all)

@@ -8,17 +8,17 @@ use Rattle.dayfile.proofs.contracts.contract.Goals as goal
 
 pub right-requires : goal.right-requires
 right-requires c =
-    let k = kept_by c.args.source.now.bytes.now (section_number c.args.source.now.section) c.args.source.now.ordinal c.args.source.now.place c.fields.result (contract_fields c.args.day) c.fields.ensures c.in-ok-check.ensures in
+    let k = kept_by c.args.source.now.bytes.now (section_number c.args.source.now.section) c.args.source.now.ordinal c.args.source.now.place c.fields.result (contract_fields c.args.day) c.fields.ensures c.in_ok-check.ensures in
     (omega (arith, k.1.1.1.0.0, c.read-4.ensures.is), omega (arith, k.1.1.1.0.1, c.read-4.ensures.is))
 
 pub kind-requires : goal.kind-requires
 kind-requires c =
-    let k = kept_by c.args.source.now.bytes.now (section_number c.args.source.now.section) c.args.source.now.ordinal c.args.source.now.place c.fields.result (contract_fields c.args.day) c.fields.ensures c.in-ok-check.ensures in
+    let k = kept_by c.args.source.now.bytes.now (section_number c.args.source.now.section) c.args.source.now.ordinal c.args.source.now.place c.fields.result (contract_fields c.args.day) c.fields.ensures c.in_ok-check.ensures in
     (omega (arith, k.1.1.1.1.0.0, c.read-5.ensures.is), omega (arith, k.1.1.1.1.0.1, c.read-5.ensures.is))
 
-pub invariant-of-result : goal.invariant-of-result
-invariant-of-result c =
-    let k = kept_by c.args.source.now.bytes.now (section_number c.args.source.now.section) c.args.source.now.ordinal c.args.source.now.place c.fields.result (contract_fields c.args.day) c.fields.ensures c.in-ok-check.ensures in (
+pub invariant_of-result : goal.invariant_of-result
+invariant_of-result c =
+    let k = kept_by c.args.source.now.bytes.now (section_number c.args.source.now.section) c.args.source.now.ordinal c.args.source.now.place c.fields.result (contract_fields c.args.day) c.fields.ensures c.in_ok-check.ensures in (
       (omega (arith, k.0.0, c.read.ensures.is), omega (arith, k.0.1, c.read.ensures.is)),
       (
         (omega (arith, k.1.0.0, c.read-2.ensures.is), omega (arith, k.1.0.1, c.read-2.ensures.is)),
@@ -43,6 +43,6 @@ invariant-of-result c =
 
 pub returns : goal.returns
 returns c = record {
-  fault = subst (λ fs. fields_fault c.args.source.now.bytes.now (section_number c.args.source.now.section) c.args.source.now.ordinal c.args.source.now.place fs ≡ None) c.fields.ensures c.in-ok-check.ensures;
+  fault = subst (λ fs. fields_fault c.args.source.now.bytes.now (section_number c.args.source.now.section) c.args.source.now.ordinal c.args.source.now.place fs ≡ None) c.fields.ensures c.in_ok-check.ensures;
   said = same_terms _ _ _ _ _ _ _ _ _ _ c.args.source.now.bytes.now c.read.ensures.is c.read-2.ensures.is c.read-3.ensures.is (c.right.ensures ∙ c.read-4.ensures.is) (c.kind.ensures ∙ c.read-5.ensures.is) c.read-6.ensures.is c.read-7.ensures.is c.read-8.ensures.is c.read-9.ensures.is c.read-10.ensures.is;
 }

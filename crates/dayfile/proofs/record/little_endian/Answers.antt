@@ -4,13 +4,13 @@ use Rattle.dayfile.proofs.Little.{SoFar, so_far_none, so_far_more, so_far_room}
 use Rattle.dayfile.proofs.record.little_endian.Goals as goal
 
 more : (c : goal.After-shared-slice-known·1) → SoFar c.args.bytes.now (c.loop-i.i - 1) (c.loop-i.n * 256 + get_or c.args.bytes.now (c.loop-i.i - 1) 0) × (c.loop-i.n * 256 + get_or c.args.bytes.now (c.loop-i.i - 1) 0 < 18446744073709551616)
-more c = so_far_more c.args.bytes.now c.loop-i.i c.loop-i.n _ (omega arith) (omega arith) (omega arith) refl (omega (arith, c.type-inv.bytes (c.loop-i.i - 1))) c.loop-i.invariant
+more c = so_far_more c.args.bytes.now c.loop-i.i c.loop-i.n _ (omega arith) (omega arith) (omega arith) refl (omega (arith, c.type_inv.bytes (c.loop-i.i - 1))) c.loop-i.invariant
 
-pub overflow-mul-n : goal.overflow-mul-n
-overflow-mul-n c = omega (arith, so_far_room c.args.bytes.now c.loop-i.i c.loop-i.n (omega arith) (omega arith) (omega arith) c.loop-i.invariant)
+pub overflow_mul-n : goal.overflow_mul-n
+overflow_mul-n c = omega (arith, so_far_room c.args.bytes.now c.loop-i.i c.loop-i.n (omega arith) (omega arith) (omega arith) c.loop-i.invariant)
 
-pub overflow-add-n : goal.overflow-add-n
-overflow-add-n c = omega (arith, (more c).1)
+pub overflow_add-n : goal.overflow_add-n
+overflow_add-n c = omega (arith, (more c).1)
 
 pub loop-i-init : goal.loop-i-init
 loop-i-init c = so_far_none c.args.bytes.now

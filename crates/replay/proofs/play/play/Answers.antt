@@ -22,9 +22,9 @@ pub loop-k-preserved : goal.loop-k-preserved
 loop-k-preserved g c =
     let m : Meaning = meaning g.S.LegScale.leg_of g.S.CombinationScale.pair_of c.args.scale.now in
     let d : DayFile = c.args.file.now in
-    let below : c.loop-k.k < d.call_count = subst (λ n. c.loop-k.k < n) c.call-count-k-end.ensures c.loop-k-test.true in
-    next_told m d c.args.bytes.now (first_ledger d.settings) c.open-book.result.tables c.loop-k.k c.in-Some.call (vec_items c.loop-k.calls) (vec_items c.push.new.self) c.play-call.result c.loop-k.book.tables c.play-call.new.book.tables
-    c.requires below c.in-Some.ensures.own c.play-call.ensures.line c.play-call.ensures.law c.in-ok-push.ensures.items c.loop-k.invariant
+    let below : c.loop-k.k < d.call_count = subst (λ n. c.loop-k.k < n) c.call_count-k-end.ensures c.loop-k-test.true in
+    next_told m d c.args.bytes.now (first_ledger d.settings) c.open-book.result.tables c.loop-k.k c.in-Some.call (vec_items c.loop-k.calls) (vec_items c.push.new.self) c.play_call.result c.loop-k.book.tables c.play_call.new.book.tables
+    c.requires below c.in-Some.ensures.own c.play_call.ensures.line c.play_call.ensures.law c.in_ok-push.ensures.items c.loop-k.invariant
 
 pub returns : goal.returns
 returns g c =
@@ -35,7 +35,7 @@ returns g c =
     let last : Tables = c.loop-k.book.tables in
     let lines : List CallLine = vec_items c.loop-k.calls in
     let by : OpenedBy m d.settings d.listing b = opened_by m c.settings-settings.result d.settings c.listing-listing.result.now d.listing b c.settings-settings.ensures c.listing-listing.ensures (record { opened = c.open-book.ensures.opened; law = c.open-book.ensures.law m }) in
-    let counted : c.loop-k.k ≡ count_of_calls bytes = omega (arith, c.call-count-k-end.ensures, c.requires.calls_counted) in
+    let counted : c.loop-k.k ≡ count_of_calls bytes = omega (arith, c.call_count-k-end.ensures, c.requires.calls_counted) in
     record {
       opening_is = opening_line c.settings-settings.result d.settings c.contracts.result.now (listed d.listing) c.settings-settings.ensures (c.contracts.ensures.are ∙ ap listed c.listing-listing.ensures);
       calls_are = c.loop-k.invariant.calls ∙ ap (numbered_calls bytes) counted;

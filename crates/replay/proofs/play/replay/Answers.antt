@@ -13,16 +13,16 @@ scale-is s t x e is = sym is ∙ ap (λ (z : Settings). z.scale) e
 
 pub returns-in-Standard : goal.returns-in-Standard
 returns-in-Standard c =
-    let d : DayFile = c.in-ok-file.file in
+    let d : DayFile = c.in_ok-file.file in
     let bytes = c.args.bytes.now in
-    let r = c.play-raised.result in
+    let r = c.play_raised.result in
     let P : BaseScale → Type 0 = λ x. PlayedAs (raised_meaning d.settings.second_raise (raised_meaning d.settings.first_raise (base_meaning x))) bytes d.settings (listed d.listing) r in
-    reported bytes d r c.in-ok-file.ensures (subst P (scale-is c.settings.result d.settings _ c.settings.ensures c.in-Standard.is) c.play-raised.ensures)
+    reported bytes d r c.in_ok-file.ensures (subst P (scale-is c.settings.result d.settings _ c.settings.ensures c.in-Standard.is) c.play_raised.ensures)
 
 pub returns-in-Listed : goal.returns-in-Listed
 returns-in-Listed c =
-    let d : DayFile = c.in-ok-file.file in
+    let d : DayFile = c.in_ok-file.file in
     let bytes = c.args.bytes.now in
-    let r = c.play-raised-in-Listed.result in
+    let r = c.play_raised-in-Listed.result in
     let P : BaseScale → Type 0 = λ x. PlayedAs (raised_meaning d.settings.second_raise (raised_meaning d.settings.first_raise (base_meaning x))) bytes d.settings (listed d.listing) r in
-    reported bytes d r c.in-ok-file.ensures (subst P (scale-is c.settings.result d.settings _ c.settings.ensures c.in-Listed.is) c.play-raised-in-Listed.ensures)
+    reported bytes d r c.in_ok-file.ensures (subst P (scale-is c.settings.result d.settings _ c.settings.ensures c.in-Listed.is) c.play_raised-in-Listed.ensures)

@@ -5,4 +5,4 @@ use Rattle.replay.proofs.text.add_word.Goals as goal
 pub returns : goal.returns
 returns c =
     let before = vec_items c.args.text.now in
-    behind before (vec_items c.extend-from-slice.new.self) (vec_items c.add-number.new.text) c.args.word.now (decimal c.args.number) (c.in-ok-extend-from-slice.ensures.items ∙ ap (λ t. before ++ t) c.as-bytes.ensures.value) c.in-ok-add-number.ensures
+    behind before (vec_items c.extend_from_slice.new.self) (vec_items c.add_number.new.text) c.args.word.now (decimal c.args.number) (c.in_ok-extend_from_slice.ensures.items ∙ ap (λ t. before ++ t) c.as_bytes.ensures.value) c.in_ok-add_number.ensures

@@ -6,6 +6,6 @@ pub returns : goal.returns
 returns c =
     let x = c.args.fault.now in
     let word = codes "fault " ++ decimal x.number in
-    four_words [] (vec_items c.add-word.new.text) (vec_items c.add-word-2.new.text) (vec_items c.add-word-3.new.text) (vec_items c.add-word-4.new.text) (vec_items c.push.new.self)
+    four_words [] (vec_items c.add_word.new.text) (vec_items c.add_word-2.new.text) (vec_items c.add_word-3.new.text) (vec_items c.add_word-4.new.text) (vec_items c.push.new.self)
     (codes "fault ") (decimal x.number) (codes " section ") (decimal x.section) (codes " record ") (decimal x.ordinal) (codes " place ") (decimal x.place)
-    (c.in-ok-add-word.ensures ∙ ap (λ t. t ++ word) c.new-text.ensures.items) c.in-ok-add-word-2.ensures c.in-ok-add-word-3.ensures c.in-ok-add-word-4.ensures c.in-ok-push.ensures.items
+    (c.in_ok-add_word.ensures ∙ ap (λ t. t ++ word) c.new-text.ensures.items) c.in_ok-add_word-2.ensures c.in_ok-add_word-3.ensures c.in_ok-add_word-4.ensures c.in_ok-push.ensures.items

@@ -11,7 +11,7 @@ loop-k-init c = (refl, record { bytes_are = refl; section_is = refl; passed_is =
 
 pub loop-k-preserved : goal.loop-k-preserved
 loop-k-preserved c =
-    let sound = sym (told call_record_fault (handed c.loop-k.invariant.1 c.next-found.ensures)) ∙ c.in-ok-check.ensures in
+    let sound = sym (told call_record_fault (handed c.loop-k.invariant.1 c.next-found.ensures)) ∙ c.in_ok-check.ensures in
     (first_more (call_fault c.args.bytes.now) c.loop-k.k c.loop-k.invariant.0 sound, moved c.loop-k.invariant.1 c.next-found.ensures)
 
 pub returns : goal.returns
@@ -19,8 +19,8 @@ returns c =
     let all : c.loop-k.k ≡ c.args.count = omega arith in
     subst (λ k. first_below k (call_fault c.args.bytes.now) ≡ None) all c.loop-k.invariant.0
 
-pub returns-in-err-check : goal.returns-in-err-check
-returns-in-err-check c =
-    let broken = sym (told call_record_fault (handed c.loop-k.invariant.1 c.next-found.ensures)) ∙ c.in-err-check.ensures in
-    let p = err_from_is_err_and c.from-residual.result c.from-residual.ensures.1 in
-    rw (p.1, p.2) (first_found (call_fault c.args.bytes.now) c.args.count c.loop-k.k (record_told c.in-err-check.field-0.0) (omega arith) c.loop-k.invariant.0 broken)
+pub returns-in_err-check : goal.returns-in_err-check
+returns-in_err-check c =
+    let broken = sym (told call_record_fault (handed c.loop-k.invariant.1 c.next-found.ensures)) ∙ c.in_err-check.ensures in
+    let p = err_from_is_err_and c.from_residual.result c.from_residual.ensures.1 in
+    rw (p.1, p.2) (first_found (call_fault c.args.bytes.now) c.args.count c.loop-k.k (record_told c.in_err-check.field-0.0) (omega arith) c.loop-k.invariant.0 broken)

@@ -17,7 +17,7 @@ fault-requires c =
 
 pub loop-field-preserved : goal.loop-field-preserved
 loop-field-preserved c = (
-  sym (rest_kept c.args.self.now.bytes.now (section_number c.args.self.now.section) c.args.self.now.ordinal c.args.self.now.place c.args.fields.now c.loop-field.field-index (omega arith) c.read.result c.read.ensures.is c.in-default.ensures) ∙ c.loop-field.invariant.0,
+  sym (rest_kept c.args.self.now.bytes.now (section_number c.args.self.now.section) c.args.self.now.ordinal c.args.self.now.place c.args.fields.now c.loop-field.field-index (omega arith) c.read.result c.read.ensures.is c.in_default.ensures) ∙ c.loop-field.invariant.0,
   (rest_inside (length c.args.self.now.bytes.now) c.args.fields.now c.loop-field.field-index (omega arith) c.loop-field.invariant.1).1,
 )
 

@@ -4,9 +4,9 @@ use Rattle.dayfile.specs.Layout.{settings_fields}
 use Rattle.dayfile.proofs.Checking.{Kept, kept_by}
 use Rattle.dayfile.proofs.settings.parse.settings.Goals as goal
 
-pub invariant-of-result : goal.invariant-of-result
-invariant-of-result c =
-    let k : Kept c.args.source.now.bytes.now settings_fields = kept_by c.args.source.now.bytes.now (section_number c.args.source.now.section) c.args.source.now.ordinal c.args.source.now.place c.fields.result settings_fields c.fields.ensures c.in-ok-check.ensures in (
+pub invariant_of-result : goal.invariant_of-result
+invariant_of-result c =
+    let k : Kept c.args.source.now.bytes.now settings_fields = kept_by c.args.source.now.bytes.now (section_number c.args.source.now.section) c.args.source.now.ordinal c.args.source.now.place c.fields.result settings_fields c.fields.ensures c.in_ok-check.ensures in (
       omega (arith, k.1.0.1, c.read-2.ensures.is),
       (
         omega (arith, k.1.1.0.1, c.read-3.ensures.is),

@@ -16,14 +16,14 @@ returns-then-clashing c =
     let clashing = c.if-clashing.ensures ∙ ap (λ l. clashes_any (map terms_of l) (terms_of c.args.next)) c.contracts.ensures.are in
     (few r c.args.next, is_above r c.args.next (omega arith), sym clashing, refl)
 
-pub invariant-of-self : goal.invariant-of-self
-invariant-of-self c =
+pub invariant_of-self : goal.invariant_of-self
+invariant_of-self c =
     let r : Room c.args.self.now.contracts c.args.self.now.count c.index-self-count.result = record { table = c.args.self.now.table; some = c.args.self.now.counted.0; fewer = omega arith; last = c.index-self-count.is } in
     let apart = c.if-clashing.ensures ∙ ap (λ l. clashes_any (map terms_of l) (terms_of c.args.next)) c.contracts.ensures.are in
     let table = length-set c.args.self.now.contracts c.args.self.now.count c.args.next ∙ c.args.self.now.table in
     let rising = still_rising r c.args.next (omega arith) c.args.self.now.rising in
     let agreeing = still_agreeing r c.args.next (sym apart) c.args.self.now.agreeing in
-    (table, ((omega arith, omega arith), (rising, (agreeing, tt))))
+    record { table = table; counted = (omega arith, omega arith); rising = rising; agreeing = agreeing }
 
 pub returns : goal.returns
 returns c =
