@@ -18,28 +18,16 @@ kind-requires c =
 
 pub invariant_of-result : goal.invariant_of-result
 invariant_of-result c =
-    let k = kept_by c.args.source.now.bytes.now (section_number c.args.source.now.section) c.args.source.now.ordinal c.args.source.now.place c.fields.result (contract_fields c.args.day) c.fields.ensures c.in_ok-check.ensures in (
-      (omega (arith, k.0.0, c.read.ensures.is), omega (arith, k.0.1, c.read.ensures.is)),
-      (
-        (omega (arith, k.1.0.0, c.read-2.ensures.is), omega (arith, k.1.0.1, c.read-2.ensures.is)),
-        (
-          (omega (arith, k.1.1.0.0, c.read-3.ensures.is, c.requires.day), omega (arith, k.1.1.0.1, c.read-3.ensures.is)),
-          (
-            (omega (arith, k.1.1.1.1.1.0.0, c.read-6.ensures.is), omega (arith, k.1.1.1.1.1.0.1, c.read-6.ensures.is)),
-            (
-              (omega (arith, k.1.1.1.1.1.1.0.0, c.read-7.ensures.is), omega (arith, k.1.1.1.1.1.1.0.1, c.read-7.ensures.is)),
-              (
-                (omega (arith, k.1.1.1.1.1.1.1.0.0, c.read-8.ensures.is), omega (arith, k.1.1.1.1.1.1.1.0.1, c.read-8.ensures.is)),
-                (
-                  (omega (arith, k.1.1.1.1.1.1.1.1.0.0, c.read-9.ensures.is), omega (arith, k.1.1.1.1.1.1.1.1.0.1, c.read-9.ensures.is)),
-                  (omega (arith, k.1.1.1.1.1.1.1.1.1.0.1, c.read-10.ensures.is), tt),
-                ),
-              ),
-            ),
-          ),
-        ),
-      ),
-    )
+    let k = kept_by c.args.source.now.bytes.now (section_number c.args.source.now.section) c.args.source.now.ordinal c.args.source.now.place c.fields.result (contract_fields c.args.day) c.fields.ensures c.in_ok-check.ensures in record {
+      code_in_range = (omega (arith, k.0.0, c.read.ensures.is), omega (arith, k.0.1, c.read.ensures.is));
+      underlying_in_range = (omega (arith, k.1.0.0, c.read-2.ensures.is), omega (arith, k.1.0.1, c.read-2.ensures.is));
+      expiry_in_range = (omega (arith, k.1.1.0.0, c.read-3.ensures.is, c.requires.day), omega (arith, k.1.1.0.1, c.read-3.ensures.is));
+      unit_in_range = (omega (arith, k.1.1.1.1.1.0.0, c.read-6.ensures.is), omega (arith, k.1.1.1.1.1.0.1, c.read-6.ensures.is));
+      strike_in_range = (omega (arith, k.1.1.1.1.1.1.0.0, c.read-7.ensures.is), omega (arith, k.1.1.1.1.1.1.0.1, c.read-7.ensures.is));
+      settlement_in_range = (omega (arith, k.1.1.1.1.1.1.1.0.0, c.read-8.ensures.is), omega (arith, k.1.1.1.1.1.1.1.0.1, c.read-8.ensures.is));
+      close_in_range = (omega (arith, k.1.1.1.1.1.1.1.1.0.0, c.read-9.ensures.is), omega (arith, k.1.1.1.1.1.1.1.1.0.1, c.read-9.ensures.is));
+      listed_margin_in_range = omega (arith, k.1.1.1.1.1.1.1.1.1.0.1, c.read-10.ensures.is);
+    }
 
 pub returns : goal.returns
 returns c = record {
