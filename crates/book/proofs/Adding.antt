@@ -6,7 +6,7 @@ use Rattle.register.specs.declared.refusal.RegisterRefusal.TheVariants.{NoFreeRo
 use Rattle.register.specs.declared.row.Row.{Row}
 use Rattle.register.specs.declared.series.Series.{Series}
 use Rattle.register.specs.Calls.{add_refusal, Adds}
-use Rattle.register.specs.Numbers.{last_number, next_of, moved_on}
+use Rattle.register.specs.Numbers.{last_number, next_of}
 use Rattle.register.specs.Rows.{some_free, Added}
 use Rattle.ledger.specs.declared.order.Combination.{Combination}
 use Rattle.ledger.specs.declared.order.Order.{Order}

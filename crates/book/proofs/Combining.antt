@@ -1,5 +1,5 @@
 -- The answer to a combine, put together from its parts.
-use Rattle.std.proofs.Common.{◌≡◌, ℕ, ◌+◌, ◌-◌, ◌*◌, ◌≤◌, Bool, true, false, cond, not, ◌||◌, ltb, List, [], ◌∷◌, length, Some, None, Ok, Err, Option, Result, sym, refl, ap, ◌∙◌, subst, ⊎_elim, arith}
+use Rattle.std.proofs.Common.{◌≡◌, ℕ, ◌-◌, ◌*◌, ◌≤◌, Bool, true, false, cond, not, ◌||◌, ltb, List, [], ◌∷◌, Some, None, Ok, Err, Option, Result, sym, refl, ap, ◌∙◌, subst, ⊎_elim, arith}
 use Rattle.std.proofs.lemmas.Bool.{cases_eq}
 use Rattle.register.specs.Numbers.{next_of, moved_on}
 use Rattle.margin.specs.declared.contract.Contract.{Contract}
@@ -8,7 +8,6 @@ use Rattle.margin.specs.ByCode.{by_code}
 use Rattle.margin.specs.Fits.{fits}
 use Rattle.margin.specs.Meaning.{Meaning}
 use Rattle.margin.specs.Strategies.{first_written}
-use Rattle.ledger.specs.declared.order.Combination.{Combination}
 use Rattle.ledger.specs.declared.refusal.Refusal.{Refusal}
 use Rattle.ledger.specs.declared.tables.Position.{Position}
 use Rattle.ledger.specs.declared.tables.Tables.{Tables}
@@ -106,10 +105,10 @@ module _ (m : Meaning) (b : Tables) (a first second lots : ℕ) where
         ∙ ap (λ x. first_met (pair_entry_tests b x (pair s))) (sym p) ∙ ap (λ x. first_met (pair_entry_tests b back x)) (sym q)
 
   -- entered, then the first leg locked, then the second
-  pub combined_as : (s : Strategy) (back taken : ℕ) (x : ℕ × ℕ) (entered one after : Tables) → back ≡ legs s → taken ≡ pair s →
+  pub combined_as : (s : Strategy) (back taken : ℕ) (x : ℕ × ℕ) (entered first_moved after : Tables) → back ≡ legs s → taken ≡ pair s →
       CombinationTaken b (record { account = a; strategy = s; first = first; second = second; lots = lots; engaged = 0 }) (funds_to (margins_moved back taken b.funds) b) (Ok x) entered →
-      one ≡ at a first (lock_first s lots) entered → after ≡ at a second (locking_written lots) one → CombinedAs m b s a first second lots (Ok x) after
-  combined_as s back taken x entered one after p q e o f =
+      first_moved ≡ at a first (lock_first s lots) entered → after ≡ at a second (locking_written lots) first_moved → CombinedAs m b s a first second lots (Ok x) after
+  combined_as s back taken x entered first_moved after p q e o f =
       let next : Tables → Tables = at a second (locking_written lots) in
       let both : Tables → Tables = λ t. next (at a first (lock_first s lots) t) in
       let rows = e.0 in

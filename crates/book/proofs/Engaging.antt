@@ -1,5 +1,5 @@
 -- The answer to a leg close, put together from its parts.
-use Rattle.std.proofs.Common.{◌≡◌, ℕ, ◌*◌, List, [], ◌∷◌, Some, None, Ok, Err, Option, ap, ◌∙◌}
+use Rattle.std.proofs.Common.{◌≡◌, ℕ, ◌*◌, List, Some, None, Ok, Option, ap, ◌∙◌}
 use Rattle.register.specs.declared.row.Row.{Row}
 use Rattle.register.specs.Rows.{changed}
 use Rattle.margin.specs.Meaning.{Meaning}

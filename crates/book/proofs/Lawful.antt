@@ -12,7 +12,7 @@ use Rattle.ledger.specs.Content.{Pairing}
 use Rattle.ledger.specs.Ledger.{Ledger, under}
 use Rattle.ledger.specs.Law.{contracts_of, combination_under, position_of, engaged}
 use Rattle.ledger.specs.Moves.{content}
-use Rattle.ledger.specs.Runs.{Law, Kept, Fitted, SoundCombination, SoundOrder}
+use Rattle.ledger.specs.Runs.{Law, SoundCombination, SoundOrder}
 use Rattle.ledger.proofs.Tests.{some_same}
 use Rattle.book.specs.Facts.{AllFitted, FundsWithin}
 

@@ -1,5 +1,5 @@
 -- The tables of a book as it is opened.
-use Rattle.std.proofs.Common.{◌≡◌, ℕ, zero, suc, List, replicate, refl}
+use Rattle.std.proofs.Common.{◌≡◌, ℕ, zero, suc, replicate, refl}
 use Rattle.std.proofs.lemmas.List.{length-replicate}
 use Rattle.register.specs.declared.row.Row.{Row}
 use Rattle.register.specs.declared.series.Series.{Series}

@@ -3,7 +3,7 @@ use Rattle.std.proofs.Common.{◌≡◌, List, [], ◌∷◌, ◌++◌, refl, ap
 use Rattle.margin.specs.Meaning.{Meaning}
 use Rattle.ledger.specs.declared.call.Call.{Call}
 use Rattle.ledger.specs.declared.tables.Tables.{Tables}
-use Rattle.ledger.specs.Runs.{Event, Run, ByTheRules}
+use Rattle.ledger.specs.Runs.{Event, ByTheRules}
 use Rattle.ledger.specs.Runs.Run.{start}
 use Rattle.ledger.specs.Tests.{Answer}
 use Rattle.ledger.proofs.Running.{run_on, run_law}

@@ -1,5 +1,5 @@
 -- The answer to a release, put together from its parts.
-use Rattle.std.proofs.Common.{◌≡◌, ℕ, ◌-◌, ◌*◌, Bool, ltb, List, [], ◌∷◌, Some, None, Option, sym, refl, ap, ◌∙◌, subst}
+use Rattle.std.proofs.Common.{◌≡◌, ℕ, ◌-◌, ◌*◌, ltb, [], ◌∷◌, Some, None, Option, sym, ap, ◌∙◌}
 use Rattle.margin.specs.Meaning.{Meaning}
 use Rattle.ledger.specs.declared.order.Combination.{Combination}
 use Rattle.ledger.specs.declared.tables.Tables.{Tables}

@@ -1,12 +1,11 @@
 -- The call at a place of the calls section.
-use Rattle.std.proofs.Common.{◌≡◌, ℕ, ◌+◌, ◌*◌, ◌<◌, ◌≤◌, Bool, true, false, cond, ◌&&◌, ltb, leb, List, length, Some, None, Option, sym, refl, ap, ◌∙◌, arith}
+use Rattle.std.proofs.Common.{◌≡◌, ℕ, ◌+◌, ◌*◌, ◌<◌, ◌≤◌, Bool, true, false, ◌&&◌, ltb, leb, List, length, Some, None, sym, refl, ap, ◌∙◌, arith}
 use Rattle.std.proofs.lemmas.Bool.{and_from, cond-true, cond-false, le-leb, le-ltb, lt-leb, lt-ltb}
 use Rattle.ledger.specs.declared.call.Call.{Call}
 use Rattle.dayfile.specs.declared.file.DayFile.{DayFile}
 use Rattle.dayfile.specs.Bytes.{part}
 use Rattle.dayfile.specs.Records.{call_in}
-use Rattle.dayfile.specs.Format.{count_of_calls}
-use Rattle.dayfile.specs.Read.{Says, call_of, OwnCall}
+use Rattle.dayfile.specs.Read.{call_of, OwnCall}
 use Rattle.dayfile.proofs.Files.{calls_sound}
 use Rattle.dayfile.proofs.Telling.{call_said}
 

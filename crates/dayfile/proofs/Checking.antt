@@ -1,5 +1,5 @@
 -- A record's fields, one by one.
-use Rattle.std.proofs.Common.{◌≡◌, ℕ, suc, ◌+◌, ◌<◌, ◌≤◌, Bool, true, false, cond, ◌&&◌, ◌||◌, eqb, ltb, leb, ◌⊎◌, List, [], ◌∷◌, length, get_or, drop, Some, None, Option, sym, refl, ap, ◌∙◌, subst, inl, inr, ⊎_elim, arith}
+use Rattle.std.proofs.Common.{◌≡◌, ℕ, ◌+◌, ◌<◌, ◌≤◌, true, ◌||◌, eqb, ltb, List, [], ◌∷◌, length, get_or, drop, Some, None, Option, sym, refl, ap, ◌∙◌, subst, ⊎_elim, arith}
 use Rattle.std.proofs.lemmas.List.{drop_more}
 use Rattle.std.proofs.lemmas.Bool.{and_parts, leb-true, or_parts, ltb-false, eqb-true, cond-true, cond-false, cases_Bool}
 use Rattle.dayfile.specs.declared.field.Field.{Field}
@@ -8,7 +8,7 @@ use Rattle.dayfile.specs.declared.field.Rule.TheVariants.{Within, Zero, Any}
 use Rattle.dayfile.specs.declared.fault.Fault.{Fault}
 use Rattle.dayfile.specs.Bytes.{value}
 use Rattle.dayfile.specs.Faults.{fault, first}
-use Rattle.dayfile.specs.Fields.{breach, placed, field_fault, fields_fault, all_inside}
+use Rattle.dayfile.specs.Fields.{breach, placed, fields_fault, all_inside}
 
 abbrev pub nothing : Field
 nothing = record { column = record { at = 0; width = 0 }; rule = Within 0 0 }

@@ -1,10 +1,10 @@
 -- The first fault of a file, part by part.
-use Rattle.std.proofs.Common.{◌≡◌, ℕ, ◌+◌, ◌-◌, ◌*◌, ◌≤◌, Bool, true, false, ◌||◌, ltb, List, length, Some, None, Option, sym, refl, ap, ◌∙◌, subst, arith}
+use Rattle.std.proofs.Common.{◌≡◌, ℕ, ◌+◌, ◌*◌, ◌≤◌, Bool, true, false, ◌||◌, ltb, List, length, Some, None, Option, refl, ap, ◌∙◌, subst, arith}
 use Rattle.std.proofs.lemmas.Bool.{cond-false, or_from, or_parts, le-ltb, ltb-false}
 use Rattle.dayfile.specs.declared.fault.Fault.{Fault}
 use Rattle.dayfile.specs.declared.fault.Section.TheVariants.{Settings, Contracts, Calls}
 use Rattle.dayfile.specs.Faults.{fault, first}
-use Rattle.dayfile.specs.Format.{start, end_of, faulty, pair_fault, length_fault, size_fault, sections_fault, records_fault, settings_fault, count_of_contracts, contract_fault, count_of_calls, call_fault, first_below, file_fault}
+use Rattle.dayfile.specs.Format.{start, end_of, faulty, pair_fault, size_fault, sections_fault, records_fault, settings_fault, count_of_contracts, contract_fault, count_of_calls, call_fault, first_below, file_fault}
 use Rattle.dayfile.proofs.Checking.{some_none, first_none}
 
 past : (bytes : List ℕ) (x : Option Fault) → size_fault bytes ≡ None → sections_fault bytes ≡ None → records_fault bytes ≡ x → file_fault bytes ≡ x

@@ -1,5 +1,5 @@
 -- The contracts of a file, listed one after another.
-use Rattle.std.proofs.Common.{◌≡◌, ℕ, zero, suc, ◌+◌, true, false, not, List, [], ◌∷◌, ◌++◌, map, length, None, Option, Result, sym, refl, ap, ◌∙◌, subst, add-one}
+use Rattle.std.proofs.Common.{◌≡◌, ℕ, zero, suc, ◌+◌, true, false, not, List, [], ◌∷◌, ◌++◌, length, None, Option, Result, sym, refl, ap, ◌∙◌, subst, add-one}
 use Rattle.std.proofs.lemmas.List.{length_push, length-map}
 use Rattle.margin.specs.declared.listing.Listing.{Listing}
 use Rattle.margin.specs.Terms.{Terms, terms_of}

@@ -1,5 +1,5 @@
 -- The rules of a record's fields. Assumes nothing.
-use Rattle.std.specs.Prelude.{ℕ, ◌+◌, Bool, true, false, cond, ◌&&◌, ◌||◌, List, [], ◌∷◌, Some, None, Option, ◌==◌, nat_le, nat_lt}
+use Rattle.std.specs.Prelude.{ℕ, ◌+◌, Bool, true, cond, ◌&&◌, ◌||◌, List, [], ◌∷◌, Some, None, Option, ◌==◌, nat_le, nat_lt}
 use Rattle.dayfile.specs.declared.field.Rule.{Rule}
 use Rattle.dayfile.specs.declared.field.Rule.TheVariants.{Within, Zero, Any}
 use Rattle.dayfile.specs.declared.field.Field.{Field}

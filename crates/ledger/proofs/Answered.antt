@@ -1,14 +1,12 @@
 -- An accepted call answers the balance after it.
-use Rattle.std.proofs.Common.{◌≡◌, ℕ, Some, None, Ok, Err, Option, sym, ap, ◌∙◌}
+use Rattle.std.proofs.Common.{◌≡◌, ℕ, Ok, sym, ap, ◌∙◌}
 use Rattle.register.specs.Rows.{lookup}
-use Rattle.margin.specs.Meaning.{Meaning}
 use Rattle.margin.specs.Strategies.{strategy_of}
-use Rattle.ledger.specs.declared.call.Call.{Call}
 use Rattle.ledger.specs.declared.call.Call.TheVariants as call
 use Rattle.ledger.specs.declared.tables.Tables.{Tables}
 use Rattle.ledger.specs.CombinationRules.{CombinedAs}
 use Rattle.ledger.specs.Keeps.{BalanceAnswered}
-use Rattle.ledger.specs.Tests.{Answer, answers, Standing}
+use Rattle.ledger.specs.Tests.{Answer, answers}
 use Rattle.ledger.proofs.Running.{standing_any}
 
 ok_same : {p q : ℕ × ℕ} → ◌≡◌ {A = Answer} (Ok p) (Ok q) → p ≡ q

@@ -1,5 +1,5 @@
 -- A leg close keeps the law.
-use Rattle.std.proofs.Common.{◌≡◌, ℕ, ◌+◌, ◌-◌, ◌*◌, ◌^◌, ◌≤◌, true, eqb, ◌⊎◌, List, Some, Ok, Err, Option, sym, refl, ap, ◌∙◌, subst, ⊎_elim, arith}
+use Rattle.std.proofs.Common.{◌≡◌, ℕ, ◌+◌, ◌-◌, ◌*◌, ◌^◌, ◌≤◌, true, eqb, List, Some, Ok, Err, Option, sym, refl, ap, ◌∙◌, subst, ⊎_elim, arith}
 use Rattle.register.specs.Numbers.{next_of}
 use Rattle.std.proofs.lemmas.Bool.{ltb-false, cases_eq, cond-true, cond-false, eq-eqb, ne_eqb, or_parts, not-false}
 use Rattle.margin.specs.ByCode.{by_code}

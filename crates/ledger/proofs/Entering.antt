@@ -1,5 +1,5 @@
 -- The law after an order is entered.
-use Rattle.std.proofs.Common.{◌≡◌, ℕ, ◌+◌, ◌-◌, ◌*◌, ◌^◌, ◌≤◌, cond, eqb, ◌⊎◌, List, length, Some, None, sym, ap, ◌∙◌, subst, ⊎_elim, arith}
+use Rattle.std.proofs.Common.{◌≡◌, ℕ, ◌+◌, ◌-◌, ◌*◌, ◌^◌, ◌≤◌, cond, eqb, List, length, Some, None, sym, ap, ◌∙◌, subst, ⊎_elim, arith}
 use Rattle.register.specs.Numbers.{next_of}
 use Rattle.register.specs.declared.row.Row.{Row}
 use Rattle.register.specs.Rows.{lookup, Apart, Added}

@@ -13,13 +13,13 @@ use Rattle.ledger.specs.ByCode.{unit_of}
 use Rattle.ledger.specs.Ledger.{Ledger, under, put, order_less, fewer, filled, combination_less, traded as entered_trade, orders_to as ledger_orders_to, cash_out, written_to}
 use Rattle.ledger.specs.Content.{Pairing, sells, contract_of}
 use Rattle.ledger.specs.Law.{contracts_of, engaged, combination_under}
-use Rattle.ledger.specs.Amounts.{leg_close_reserve, premium, pair_margin, other_leg_margin}
+use Rattle.ledger.specs.Amounts.{leg_close_reserve, pair_margin, other_leg_margin}
 use Rattle.ledger.specs.Tests.{is_none}
 use Rattle.ledger.specs.FillRules.{traded, leg_traded, freed, disengaged, reserve_per_lot, leg_reserve, fill_funds, fill_tests}
 use Rattle.ledger.specs.Moves.{order_rest, orders_to, funds_to, combinations_to, combination_rest, at, closing_written}
 use Rattle.ledger.specs.Runs.{Law, LegOf}
 use Rattle.ledger.proofs.Stays.{FillStays, CancelStays}
-use Rattle.ledger.proofs.Tests.{refused_keeps, unmet, within, some_of, stands_as, unmet_at}
+use Rattle.ledger.proofs.Tests.{refused_keeps, unmet, some_of, stands_as, unmet_at}
 use Rattle.ledger.proofs.Shares.{all_gone, all_freed}
 use Rattle.ledger.proofs.Leaving.{left, Part}
 use Rattle.ledger.proofs.Plain.{sell_open_filled, buy_open_filled, buy_close_filled, sell_close_filled, open_cancelled, buy_close_cancelled, sell_close_cancelled}

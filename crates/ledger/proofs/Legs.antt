@@ -1,5 +1,5 @@
 -- Orders where combinations change: a leg close keeps its leg and its reserve while its combination stays, but for lots.
-use Rattle.std.proofs.Common.{◌≡◌, ℕ, ◌-◌, ◌<◌, ◌⊎◌, List, ◌∷◌, Some, sym, refl, ap, ◌∙◌, ⊎_elim, arith}
+use Rattle.std.proofs.Common.{◌≡◌, ℕ, ◌-◌, ◌<◌, List, ◌∷◌, Some, sym, refl, ap, ◌∙◌, ⊎_elim, arith}
 use Rattle.std.proofs.lemmas.Bool.{cases_eq, cond-true, cond-false, eq-eqb, ne_eqb}
 use Rattle.margin.specs.declared.contract.Contract.{Contract}
 use Rattle.ledger.specs.declared.order.OrderKind.{OrderKind}

@@ -1,6 +1,5 @@
 -- Margins and units of contracts that may or may not be listed, and when two scales mean the same. Assumes nothing.
-use Rattle.std.specs.Prelude.{◌≡◌, ℕ, ◌%◌, ◌^◌, ◌≤◌, true, cond, eqb, List, [], ◌∷◌, Some, None, Option}
-use Rattle.margin.specs.ByCode.{by_code}
+use Rattle.std.specs.Prelude.{◌≡◌, ℕ, true, Some, None, Option}
 use Rattle.margin.specs.declared.contract.Contract.{Contract}
 use Rattle.margin.specs.Meaning.{Meaning}
 use Rattle.margin.specs.declared.strategy.Strategy.{Strategy}

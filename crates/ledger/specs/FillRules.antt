@@ -1,8 +1,7 @@
 -- The rules of fill and cancel. Assumes nothing.
-use Rattle.std.specs.Prelude.{ℕ, ◌+◌, ◌-◌, ◌*◌, ◌^◌, Bool, true, false, cond, ◌&&◌, ltb, List, [], ◌∷◌, Some, None, Option, ◌==◌, nat_lt}
+use Rattle.std.specs.Prelude.{ℕ, ◌+◌, ◌-◌, ◌*◌, ◌^◌, Bool, cond, ◌&&◌, ltb, List, [], ◌∷◌, Some, None, Option, ◌==◌, nat_lt}
 use Rattle.register.specs.Rows.{lookup, changed, removed}
 use Rattle.margin.specs.ByCode.{by_code}
-use Rattle.margin.specs.Strategies.{first_written}
 use Rattle.ledger.specs.declared.order.Order.{Order}
 use Rattle.ledger.specs.declared.order.Combination.{Combination}
 use Rattle.ledger.specs.declared.order.OrderKind.{OrderKind}
@@ -17,7 +16,6 @@ use Rattle.ledger.specs.Moves.{content, funds_to, orders_to, combinations_to, un
 use Rattle.ledger.specs.CombinationRules.{leg_close_per_lot}
 use Rattle.ledger.specs.Amounts.{leg_close_reserve, reserve_with, premium, pair_per_lot, other_leg_margin}
 use Rattle.ledger.specs.Content.{contract_of, sells}
-use Rattle.margin.specs.Strategies.{first_written}
 
 -- what a fill brings back and receives, and what it pays and takes: the reserve, the premium on either side, margin on either side
 pub record Flow : Type 0 where

@@ -1,8 +1,8 @@
 -- Runs of calls, the law over them, and the comparison of two books. Assumes nothing.
-use Rattle.std.specs.Prelude.{◌≡◌, ℕ, ◌+◌, ◌^◌, ◌<◌, ◌≤◌, true, cond, List, [], ◌∷◌, map, length, Some, None, Ok, Err, Option, ◌==◌}
+use Rattle.std.specs.Prelude.{◌≡◌, ℕ, ◌+◌, ◌^◌, ◌<◌, ◌≤◌, true, cond, List, [], ◌∷◌, map, length, Some, Ok, Err, Option, ◌==◌}
 use Rattle.std.specs.List.Sorted.{IsPermutation}
 use Rattle.register.specs.declared.row.Row.{Row}
-use Rattle.register.specs.Rows.{Apart, lookup}
+use Rattle.register.specs.Rows.{Apart}
 use Rattle.margin.specs.ByCode.{by_code}
 use Rattle.margin.specs.declared.contract.Contract.{Contract}
 use Rattle.margin.specs.declared.strategy.Strategy.{Strategy}
@@ -10,7 +10,6 @@ use Rattle.margin.specs.Fits.{fits}
 use Rattle.ledger.specs.declared.call.Call.{Call}
 use Rattle.ledger.specs.declared.call.Call.TheVariants as call
 use Rattle.ledger.specs.declared.order.Order.{Order}
-use Rattle.ledger.specs.declared.order.Combination.{Combination}
 use Rattle.ledger.specs.declared.order.OrderKind.{OrderKind}
 use Rattle.ledger.specs.declared.order.OrderKind.TheVariants.{SellOpen, BuyOpen, BuyClose, SellClose, LegClose}
 use Rattle.ledger.specs.declared.tables.Tables.{Tables}

@@ -1,5 +1,5 @@
 -- Tests, and what a call's rule is made of: a list of numbered tests, and what acceptance leaves. Assumes nothing.
-use Rattle.std.specs.Prelude.{◌≡◌, ℕ, ◌+◌, ◌-◌, ◌^◌, Bool, true, false, cond, not, ◌||◌, List, [], ◌∷◌, Some, None, Ok, Err, Option, Result, nat_lt}
+use Rattle.std.specs.Prelude.{◌≡◌, ℕ, ◌+◌, ◌^◌, Bool, true, false, cond, not, ◌||◌, List, [], ◌∷◌, Some, None, Ok, Err, Option, Result, nat_lt}
 use Rattle.margin.specs.ByCode.{by_code}
 use Rattle.register.specs.declared.row.Row.{Row}
 use Rattle.register.specs.declared.series.Series.{Series}

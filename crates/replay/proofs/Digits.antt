@@ -1,6 +1,5 @@
 -- A number written digit by digit, from its last.
-use Rattle.std.proofs.Common.{◌≡◌, ℕ, zero, suc, ◌+◌, ◌-◌, ◌*◌, ◌/◌, ◌%◌, ◌^◌, ◌<◌, ◌≤◌, cond, List, [], ◌∷◌, ◌++◌, length, take, drop, set, is_ok, IfOk, Ok, Err, decimal, Result, sym, refl, ap, ◌∙◌, subst, append_assoc, div-lt_iff_lt-mul, pow-suc, arith, length-drop, length-set}
-use native.Mathlib.Nat.{suc-sub-suc, sub-zero}
+use Rattle.std.proofs.Common.{◌≡◌, ℕ, zero, suc, ◌+◌, ◌-◌, ◌*◌, ◌/◌, ◌%◌, ◌^◌, ◌<◌, ◌≤◌, cond, List, [], ◌∷◌, ◌++◌, length, take, drop, set, is_ok, IfOk, Ok, Err, decimal, Result, sym, ap, ◌∙◌, subst, append_assoc, div-lt_iff_lt-mul, pow-suc, arith, length-drop, length-set}
 use Rattle.std.proofs.lemmas.List.{drop-set, take_all}
 use Rattle.std.proofs.lemmas.Fmt.{decimal_digit, decimal_step}
 

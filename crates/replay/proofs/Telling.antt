@@ -15,7 +15,7 @@ use Rattle.ledger.specs.Runs.{ByTheRules, Run, Law, LawAlong, Kept, fed}
 use Rattle.ledger.specs.Runs.Run.{start}
 use Rattle.ledger.proofs.Running.{run_on, run_law, contracts_stay}
 use Rattle.dayfile.specs.declared.file.DayFile.{DayFile}
-use Rattle.dayfile.specs.Format.{call_at, count_of_calls}
+use Rattle.dayfile.specs.Format.{call_at}
 use Rattle.dayfile.specs.Read.{Says, OwnCall}
 use Rattle.replay.specs.declared.failure.Failure.{Failure}
 use Rattle.replay.specs.declared.failure.Failure.TheVariants.{Faulty, OutOfMemory}
@@ -24,7 +24,7 @@ use Rattle.replay.specs.declared.report.CallLine.{CallLine}
 use Rattle.replay.specs.declared.report.EndLine.{EndLine}
 use Rattle.replay.specs.declared.report.OpeningLine.{OpeningLine}
 use Rattle.replay.specs.Lines.{answer_of, event_of, events_of, LineOf, ledger_after, Explained, BalancesExplained}
-use Rattle.replay.specs.Replayed.{day_meaning, numbered_calls, place_and_call, first_ledger, EndExplained, Told, PlayedAs, Replayed}
+use Rattle.replay.specs.Replayed.{day_meaning, numbered_calls, place_and_call, first_ledger, Told, PlayedAs, Replayed}
 
 map_on : {A B : Type 0} (f : A → B) (xs : List A) (x : A) → map f (xs ++ x ∷ []) ≡ map f xs ++ f x ∷ []
 map_on f [] x = refl

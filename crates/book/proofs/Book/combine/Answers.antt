@@ -1,4 +1,4 @@
-use Rattle.std.proofs.Common.{◌≡◌, ℕ, ◌*◌, ◌≤◌, [], ◌∷◌, Some, None, Ok, Err, Option, sym, refl, ap, ◌∙◌, subst, arith}
+use Rattle.std.proofs.Common.{◌≡◌, ◌*◌, ◌≤◌, Some, None, Ok, Err, Option, sym, refl, ap, ◌∙◌, subst, arith}
 use Rattle.margin.specs.declared.strategy.Strategy.{Strategy}
 use Rattle.margin.specs.Meaning.{Meaning, meaning}
 use Rattle.margin.specs.Strategies.{strategy_of}
@@ -11,7 +11,7 @@ use Rattle.ledger.specs.Law.{contracts_of, position_of}
 use Rattle.ledger.specs.Moves.{at, lock_first}
 use Rattle.ledger.specs.Refusals.{number_of}
 use Rattle.ledger.specs.Runs.{Listed}
-use Rattle.ledger.specs.Tests.{Answer, first_met, Standing}
+use Rattle.ledger.specs.Tests.{first_met, Standing}
 use Rattle.book.specs.Facts.{PairOf}
 use Rattle.book.proofs.Answering.{answered, passed_on}
 use Rattle.book.proofs.Pricing.{pair_is, legs_are}

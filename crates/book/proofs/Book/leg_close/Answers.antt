@@ -1,4 +1,4 @@
-use Rattle.std.proofs.Common.{◌≡◌, ℕ, ◌+◌, ◌*◌, ◌≤◌, [], ◌∷◌, Some, None, Ok, Err, Option, sym, refl, ap, ◌∙◌, subst, arith}
+use Rattle.std.proofs.Common.{◌≡◌, ℕ, ◌+◌, ◌*◌, Some, None, Ok, Err, Option, sym, refl, ap, ◌∙◌, subst, arith}
 use Rattle.std.proofs.lemmas.Bool.{ltb-false}
 use Rattle.register.specs.Rows.{lookup, changed}
 use Rattle.margin.specs.Meaning.{Meaning, meaning}
@@ -7,12 +7,11 @@ use Rattle.ledger.specs.declared.order.Combination.{Combination}
 use Rattle.ledger.specs.declared.order.Order.{Order}
 use Rattle.ledger.specs.declared.order.OrderKind.TheVariants.{LegClose as LegCloseKind}
 use Rattle.ledger.specs.declared.refusal.Refusal.TheVariants.{NotStanding}
-use Rattle.ledger.specs.declared.tables.Tables.{Tables}
 use Rattle.ledger.specs.CombinationRules.{leg_checks, leg_close_tests, leg_close_per_lot, LegCloseRule}
 use Rattle.ledger.specs.Moves.{combinations_to, with_lots}
 use Rattle.ledger.specs.OrderRules.{enter_tests, OrderTaken}
 use Rattle.ledger.specs.Refusals.{number_of}
-use Rattle.ledger.specs.Tests.{Answer, ByTests, first_met, Standing}
+use Rattle.ledger.specs.Tests.{ByTests, first_met, Standing}
 use Rattle.ledger.proofs.Tests.{unmet}
 use Rattle.book.proofs.Answering.{answered, passed_on}
 use Rattle.book.proofs.Engaging.{no_terms, none_stands, no_leg, past_leg, changed_after}

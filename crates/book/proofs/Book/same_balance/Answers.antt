@@ -1,4 +1,4 @@
-use Rattle.std.proofs.Common.{◌≡◌, refl, eq-eqb}
+use Rattle.std.proofs.Common.{refl, eq-eqb}
 use Rattle.margin.specs.Meaning.{Meaning, meaning}
 use Rattle.ledger.proofs.Books.{same_books_balance}
 use Rattle.book.proofs.Book.same_balance.Goals as goal

@@ -1,4 +1,4 @@
-use Rattle.std.proofs.Common.{◌≡◌, ℕ, ◌*◌, ◌≤◌, sym, refl, ap, ◌∙◌, subst, arith}
+use Rattle.std.proofs.Common.{◌*◌, ◌≤◌, sym, refl, ap, ◌∙◌, subst, arith}
 use Rattle.margin.specs.Meaning.{Meaning, meaning}
 use Rattle.ledger.specs.declared.order.OrderKind.TheVariants.{SellOpen, BuyOpen, BuyClose, SellClose}
 use Rattle.ledger.specs.declared.tables.Tables.{Tables}

@@ -1,4 +1,4 @@
-use Rattle.std.proofs.Common.{◌≡◌, ◌*◌, Some, sym, refl, ap, ◌∙◌, subst, arith}
+use Rattle.std.proofs.Common.{◌*◌, Some, sym, refl, ap, ◌∙◌, subst, arith}
 use Rattle.margin.specs.Meaning.{Meaning, meaning}
 use Rattle.ledger.specs.FillRules.{leg_flow, leg_traded}
 use Rattle.ledger.specs.Law.{contracts_of}

@@ -1,4 +1,4 @@
-use Rattle.std.proofs.Common.{◌≡◌, ◌*◌, ◌≤◌, sym, refl, mul_assoc, arith}
+use Rattle.std.proofs.Common.{◌*◌, ◌≤◌, sym, refl, mul_assoc, arith}
 use Rattle.std.proofs.lemmas.Nat.{mul-le}
 use Rattle.book.proofs.parts.premium.Goals as goal
 

@@ -1,8 +1,8 @@
-use Rattle.std.proofs.Common.{◌≡◌, None, sym, refl, ap, ◌∙◌, subst, arith}
+use Rattle.std.proofs.Common.{◌≡◌, None, ◌∙◌, subst, arith}
 use Rattle.dayfile.specs.Faults.{section_number}
 use Rattle.dayfile.specs.Fields.{fields_fault}
 use Rattle.dayfile.specs.Layout.{contract_fields}
-use Rattle.dayfile.proofs.Checking.{Kept, kept_by}
+use Rattle.dayfile.proofs.Checking.{kept_by}
 use Rattle.dayfile.proofs.Listings.{same_terms}
 use Rattle.dayfile.proofs.contracts.contract.Goals as goal
 

@@ -1,4 +1,4 @@
-use Rattle.std.proofs.Common.{◌≡◌, ℕ, ◌<◌, [], ◌∷◌, map, Some, None, sym, refl, ap, ◌∙◌, subst, arith}
+use Rattle.std.proofs.Common.{◌≡◌, ◌<◌, [], ◌∷◌, map, Some, None, sym, refl, ap, ◌∙◌, subst, arith}
 use Rattle.std.proofs.lemmas.Result.{err_from_is_err_and}
 use Rattle.std.proofs.lemmas.Bool.{lt-ltb}
 use Rattle.margin.specs.Terms.{Terms, terms_of}
@@ -10,7 +10,7 @@ use Rattle.dayfile.specs.Layout.{contract_fields}
 use Rattle.dayfile.specs.Records.{terms_in}
 use Rattle.dayfile.specs.Format.{start, first_below, contract_fault, listing_fault, terms}
 use Rattle.dayfile.proofs.Firsts.{first_more, first_found}
-use Rattle.dayfile.proofs.Handed.{At, Handed, handed, moved}
+use Rattle.dayfile.proofs.Handed.{At, handed, moved}
 use Rattle.dayfile.proofs.Listings.{listed_many, lists, record_fault, listed_more}
 use Rattle.dayfile.proofs.contracts.find.Goals as goal
 

@@ -1,4 +1,4 @@
-use Rattle.std.proofs.Common.{◌≡◌, ◌+◌, ◌-◌, ◌*◌, ◌^◌, ◌<◌, length, get_or, drop, sym, refl, ap, ◌∙◌, subst, arith}
+use Rattle.std.proofs.Common.{◌≡◌, ◌+◌, ◌-◌, ◌*◌, ◌^◌, ◌<◌, length, get_or, drop, refl, ap, ◌∙◌, subst, arith}
 use Rattle.dayfile.specs.Bytes.{little_endian}
 use Rattle.dayfile.proofs.Little.{SoFar, so_far_none, so_far_more, so_far_room}
 use Rattle.dayfile.proofs.record.little_endian.Goals as goal

@@ -1,4 +1,4 @@
-use Rattle.std.proofs.Common.{◌≡◌, ◌++◌, vec_items, decimal, ap, ◌∙◌}
+use Rattle.std.proofs.Common.{◌++◌, vec_items, decimal, ap, ◌∙◌}
 use Rattle.replay.proofs.Writing.{behind}
 use Rattle.replay.proofs.text.add_word.Goals as goal
 

@@ -1,8 +1,8 @@
-use Rattle.std.proofs.Common.{◌≡◌, length, Some, sym, refl, ap, ◌∙◌, subst, arith}
+use Rattle.std.proofs.Common.{length, Some, sym, ap, ◌∙◌, arith}
 use Rattle.std.proofs.lemmas.List.{at_drop_all}
 use Rattle.dayfile.specs.Faults.{section_number, breach_number}
 use Rattle.dayfile.specs.Fields.{fields_fault}
-use Rattle.dayfile.proofs.Checking.{Lies, nothing, rest_inside, rest_kept, rest_broken}
+use Rattle.dayfile.proofs.Checking.{rest_inside, rest_kept, rest_broken}
 use Rattle.dayfile.proofs.record.Record.check.Goals as goal
 
 pub read-requires : goal.read-requires

@@ -1,4 +1,4 @@
-use Rattle.std.proofs.Common.{arith, rules}
+use Rattle.std.proofs.Common.{arith}
 use Rattle.dayfile.specs.Faults.{section_number}
 use Rattle.dayfile.specs.Layout.{settings_fields}
 use Rattle.dayfile.proofs.Checking.{Kept, kept_by}

@@ -1,4 +1,4 @@
-use Rattle.std.proofs.Common.{◌≡◌, ◌++◌, vec_items, sym, ap, ◌∙◌, append-nil, arith}
+use Rattle.std.proofs.Common.{◌++◌, vec_items, sym, ap, ◌∙◌, append-nil}
 use Rattle.replay.specs.Text.{line, opening_text}
 use Rattle.replay.proofs.Writing.{written_more, written_whole}
 use Rattle.replay.proofs.report.Report.text.Goals as goal
