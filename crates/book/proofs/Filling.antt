@@ -1,5 +1,5 @@
 -- The answer to a fill, put together from its parts.
-use Rattle.std.proofs.Common.{◌≡◌, ℕ, ◌+◌, ◌^◌, Bool, true, false, ◌&&◌, ltb, List, [], ◌∷◌, Some, None, Option, sym, refl, ap, ◌∙◌}
+use Rattle.std.proofs.Common.{◌≡◌, ℕ, ◌+◌, ◌^◌, Bool, true, false, ◌&&◌, ltb, List, [], ◌∷◌, Some, None, Option, refl, ◌∙◌}
 use Rattle.std.proofs.lemmas.Bool.{cond-false}
 use Rattle.register.specs.declared.row.Row.{Row}
 use Rattle.register.specs.Rows.{lookup}
@@ -8,14 +8,12 @@ use Rattle.ledger.specs.declared.order.Combination.{Combination}
 use Rattle.ledger.specs.declared.order.Order.{Order}
 use Rattle.ledger.specs.declared.order.OrderKind.{OrderKind}
 use Rattle.ledger.specs.declared.order.OrderKind.TheVariants.{SellOpen, BuyOpen, BuyClose, SellClose, LegClose}
-use Rattle.ledger.specs.declared.tables.Funds.{Funds}
-use Rattle.ledger.specs.declared.tables.Position.{Position}
 use Rattle.ledger.specs.declared.tables.Tables.{Tables}
 use Rattle.ledger.specs.Amounts.{premium}
 use Rattle.ledger.specs.Content.{contract_of, sells}
-use Rattle.ledger.specs.FillRules.{Flow, fill_funds, filled_funds, past_limit, short_of_funds, flow, traded, leg_traded, fill_order_tests, fill_tests}
+use Rattle.ledger.specs.FillRules.{past_limit, short_of_funds, flow, traded, leg_traded, fill_order_tests, fill_tests}
 use Rattle.ledger.specs.Law.{contracts_of}
-use Rattle.ledger.specs.Moves.{funds_to, orders_to, at}
+use Rattle.ledger.specs.Moves.{orders_to}
 use Rattle.ledger.specs.Tests.{first_met, bad_lots, bad_price}
 use Rattle.ledger.proofs.Covered.{fill_never_short}
 use Rattle.ledger.proofs.Tests.{met_front, met_back}
@@ -60,31 +58,3 @@ module _ (m : Meaning) (b : Tables) (lots price : ℕ) where
     traded_as (BuyClose c) o = refl
     traded_as (SellClose c) o = refl
     traded_as (LegClose n c) o = leg_traded_as o n c (lookup b.combinations n)
-
--- the amounts that are settled are those of the flow
-pub record Amounts (w : Flow) (reserve received paid back taken : ℕ) : Type 0 where
-  pub reserve_is : reserve ≡ w.reserve
-  pub received_is : received ≡ w.received
-  pub paid_is : paid ≡ w.paid
-  pub back_is : back ≡ w.back
-  pub taken_is : taken ≡ w.taken
-
-pub funds_are : (w : Flow) (reserve received paid back taken : ℕ) → Amounts w reserve received paid back taken → (f : Funds) → fill_funds reserve received paid back taken f ≡ filled_funds w f
-funds_are w reserve received paid back taken is f =
-    ap (λ x. fill_funds x received paid back taken f) is.reserve_is
-    ∙ ap (λ x. fill_funds w.reserve x paid back taken f) is.received_is
-    ∙ ap (λ x. fill_funds w.reserve w.received x back taken f) is.paid_is
-    ∙ ap (λ x. fill_funds w.reserve w.received w.paid x taken f) is.back_is
-    ∙ ap (λ x. fill_funds w.reserve w.received w.paid w.back x f) is.taken_is
-
--- a fill that settles its flow, and then moves one position
-module _ (m : Meaning) (b : Tables) (o : Order) (lots price : ℕ) (kind : OrderKind) (is : o.kind ≡ kind) (reserve received paid back taken : ℕ) where
-  abbrev moves : Flow
-  moves = flow m b kind o.limit lots price
-
-  pub traded_at : Amounts moves reserve received paid back taken → (settled after : Tables) → settled ≡ funds_to (fill_funds reserve received paid back taken b.funds) b →
-      (code : ℕ) (move : Position → Position) → after ≡ at o.account code move settled → funds_to (filled_funds moves b.funds) (at o.account code move b) ≡ traded m b o kind lots price b →
-      after ≡ traded m b o o.kind lots price b
-  traded_at amounts settled after s code move a by_kind =
-      a ∙ ap (at o.account code move) s ∙ ap (λ f. at o.account code move (funds_to f b)) (funds_are moves reserve received paid back taken amounts b.funds) ∙ by_kind
-      ∙ ap (λ x. traded m b o x lots price b) (sym is)

@@ -1,15 +1,10 @@
 mod OpenTables
 mod Working
-mod Terms
-mod Answering
-mod Adding
 mod Ordering
 mod Pricing
 mod Lawful
-mod Resting
 mod Ending
 mod Filling
-mod LegFilling
 mod Releasing
 mod Engaging
 mod Combining
