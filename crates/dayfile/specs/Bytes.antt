@@ -6,7 +6,7 @@ use Rattle.dayfile.specs.declared.field.Column.{Column}
 abbrev pub part : List ℕ → ℕ → ℕ → List ℕ
 part bytes at width = take width (drop at bytes)
 
--- little_endian: the lowest byte stands first
+-- little-endian: the lowest byte stands first
 abbrev pub little_endian : List ℕ → ℕ
 little_endian [] = 0
 little_endian (b ∷ bs) = b + 256 * little_endian bs

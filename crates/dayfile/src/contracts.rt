@@ -3,7 +3,7 @@ ghost use Rattle.std.specs.Prelude.{◌≡◌, ℕ, ◌+◌, ◌*◌, ◌^◌, �
 ghost use Rattle.margin.specs.Terms.{terms_of, right_number, kind_number};
 ghost use Rattle.margin.specs.Listing.{listed, listed_terms};
 ghost use Rattle.dayfile.specs.declared.fault.Section.TheVariants.{Contracts as IsContracts};
-ghost use Rattle.dayfile.specs.Faults.{Passed, SectionPassed, section_number, first as first_of};
+ghost use Rattle.dayfile.specs.Faults.{Passed, SectionPassed, section_number, first as first_fault};
 ghost use Rattle.dayfile.specs.Fields.{fields_fault};
 ghost use Rattle.dayfile.specs.Layout.{contract_fields};
 ghost use Rattle.dayfile.specs.Records.{terms_in};
@@ -125,7 +125,7 @@ fn judge(source: &Record, day: u16, listing: &mut Listing) -> Result<(), RecordF
     requires section { source.now.section ≡ IsContracts }
     requires day { 1 ≤ day }
     requires room { length (listed listing.old) < 64 }
-    ensures fault { Passed (first_of (fields_fault source.now.bytes.now 2 source.now.ordinal source.now.place (contract_fields day)) (listing_fault (listed_terms listing.old) (terms_in source.now.bytes.now) source.now.ordinal source.now.place)) result }
+    ensures fault { Passed (first_fault (fields_fault source.now.bytes.now 2 source.now.ordinal source.now.place (contract_fields day)) (listing_fault (listed_terms listing.old) (terms_in source.now.bytes.now) source.now.ordinal source.now.place)) result }
     ensures joined { OnOk result (listed_terms listing.new ≡ listed_terms listing.old ++ terms_in source.now.bytes.now ∷ []) }
 {
     let contract = contract(source, day)?;

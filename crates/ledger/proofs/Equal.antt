@@ -9,7 +9,7 @@ use Rattle.ledger.specs.declared.order.OrderKind.{OrderKind}
 use Rattle.ledger.specs.declared.tables.Tables.{Tables}
 use Rattle.ledger.specs.declared.order.OrderKind.TheVariants.{SellOpen, BuyOpen, BuyClose, SellClose, LegClose}
 use Rattle.margin.specs.Meaning.{Meaning}
-use Rattle.ledger.specs.ByCode.{SameMeaning, leg_margin_of, unit_of, pair_of}
+use Rattle.ledger.specs.ByCode.{SameMeaning, leg_margin_of, unit_of, pair_margin_of}
 use Rattle.ledger.specs.Ledger.{Ledger, Entry, under, cash_total}
 use Rattle.ledger.specs.Content.{Pairing}
 use Rattle.ledger.specs.Law.{written_claim, in_combinations, margin_held, reserve, reserves, contracts_of, combination_of}
@@ -37,7 +37,7 @@ module _ (m n : Meaning) (same : SameMeaning m n) (cs : List Contract) where
 
   same_pair : (p : Pairing) → Fitted cs p → pair_margin m cs p ≡ pair_margin n cs p
   same_pair p f =
-      let by : (x : Meaning) → pair_margin x cs p ≡ x.pair p.strategy f.first f.second = λ x. ap (λ o. pair_of x p.strategy o (by_code cs p.second)) f.first_listed ∙ ap (pair_of x p.strategy (Some f.first)) f.second_listed in
+      let by : (x : Meaning) → pair_margin x cs p ≡ x.pair p.strategy f.first f.second = λ x. ap (λ o. pair_margin_of x p.strategy o (by_code cs p.second)) f.first_listed ∙ ap (pair_margin_of x p.strategy (Some f.first)) f.second_listed in
       by m ∙ same.pairs p.strategy f.first f.second f.fit ∙ sym (by n)
 
   same_other : (t : Bool) (o : Option Contract) → cond t (leg_margin_of m o) 0 ≡ cond t (leg_margin_of n o) 0

@@ -7,7 +7,7 @@ use Rattle.margin.specs.Meaning.{Meaning}
 use Rattle.margin.specs.Strategies.{first_written}
 use Rattle.ledger.specs.declared.order.OrderKind.{OrderKind}
 use Rattle.ledger.specs.declared.order.OrderKind.TheVariants.{SellOpen, BuyOpen, BuyClose, SellClose, LegClose}
-use Rattle.ledger.specs.ByCode.{leg_margin_of, unit_of, pair_of, legs_of}
+use Rattle.ledger.specs.ByCode.{leg_margin_of, unit_of, pair_margin_of, legs_of}
 use Rattle.ledger.specs.Content.{Pairing}
 
 -- lots at a price, over all units of the contract
@@ -16,7 +16,7 @@ premium cs code lots price = lots * price * unit_of (by_code cs code)
 
 -- the pair margin, and the legs' sum, of one lot of a strategy over two contracts
 abbrev pub pair_per_lot : Meaning → List Contract → Strategy → ℕ → ℕ → ℕ
-pair_per_lot m cs s first second = pair_of m s (by_code cs first) (by_code cs second)
+pair_per_lot m cs s first second = pair_margin_of m s (by_code cs first) (by_code cs second)
 
 abbrev pub legs_per_lot : Meaning → List Contract → Strategy → ℕ → ℕ → ℕ
 legs_per_lot m cs s first second = legs_of m s (by_code cs first) (by_code cs second)

@@ -89,11 +89,11 @@ abbrev pub Numbers : {T : Type 0} → List (Entry T) → ℕ → Type 0
 Numbers [] next = Unit {0}
 Numbers (e ∷ es) next = (1 ≤ e.number) × (e.number < next) × Numbers es e.number
 
--- a contract is by_code
+-- a contract is listed
 abbrev pub Listed : List Contract → ℕ → Type 0
 Listed cs code = (c : Contract) × (by_code cs code ≡ Some c)
 
--- both legs are by_code, and fit the strategy
+-- both legs are listed, and fit the strategy
 pub record Fitted (cs : List Contract) (p : Pairing) : Type 0 where
   pub first : Contract
   pub second : Contract
@@ -132,7 +132,7 @@ abbrev pub Rising : ℕ → List Contract → Type 0
 Rising low [] = Unit {0}
 Rising low (c ∷ cs) = (low < c.code) × Rising c.code cs
 
--- an account of the book, and a by_code contract
+-- an account of the book, and a listed contract
 abbrev pub OnTheBook : List Contract → ℕ → ℕ → Type 0
 OnTheBook cs a code = (1 ≤ a) × (a ≤ 8) × Listed cs code
 
@@ -212,7 +212,7 @@ book_combinations b = map content (in_use b.combinations)
 abbrev pub book_orders : Tables → List OrderContent
 book_orders b = map (λ (o : Order). order_content (combination_named b.combinations o.kind) o) (in_use b.orders)
 
--- two books that are the same but for rows and numbers: the cash total, the lots of each account and by_code contract, the combinations and the orders
+-- two books that are the same but for rows and numbers: the cash total, the lots of each account and listed contract, the combinations and the orders
 pub record SameBooks (b d : Tables) : Type 0 where
   pub cash : b.funds.cash ≡ d.funds.cash
   pub bought : (a code : ℕ) → OnTheBook (contracts_of b) a code → (position_of b a code).bought ≡ (position_of d a code).bought

@@ -41,7 +41,7 @@ settle-requires g c =
     let b = c.args.self.now.tables in
     let k = c.requires.its_scale in
     record {
-      funds = subst FundsWithin (sym (funds_stay b c.remove.new.rows c.free.new.self.tables c.in-Some.entry c.free.ensures)) (funds_within m b k.0 k.1);
+      funds = subst FundsWithin (sym (funds_stay b c.remove.new.rows c.free.new.self.tables _ c.free.ensures)) (funds_within m b k.0 k.1);
       reserve = omega (arith, c.times-reserve.ensures.most);
       received = omega arith;
       back = omega arith;
