@@ -27,7 +27,6 @@ MAKES = ("in", "if", "loop", "returns", "invariant", "decreases", "overflow", "t
 # names that say too little, or that a field or another name has already
 OTHERWISE = {
     "leg-of": "leg_margin_of",
-    "pair-of": "pair_margin_of",
     "call-count": "count_of_calls",
     "contract-count": "count_of_contracts",
     "Line-of": "line_of",
