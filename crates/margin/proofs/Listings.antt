@@ -1,18 +1,22 @@
 -- A listing that grows at its end.
-use Rattle.std.proofs.Common.{◌≡◌, ℕ, ◌+◌, ◌-◌, ◌<◌, ◌≤◌, true, false, not, ◌||◌, eqb, ltb, List, [], ◌∷◌, ◌++◌, map, length, get_or, take, drop, set, Some, sym, refl, ap, ◌∙◌, subst, arith}
-use Rattle.std.proofs.lemmas.List.{append_assoc, append-nil, at_drop_more, drop_more, length-take-le, take_more, take_more_set, map_push}
-use Rattle.std.proofs.lemmas.Bool.{and_parts, and_from, not_from_false, le-ltb, lt-ltb, eq-eqb, ne_eqb, cond-true, cond-false}
+use Rattle.std.proofs.Common.{◌≡◌, ℕ, zero, suc, ⊎_elim, Less, Equal, Greater, ◌+◌, ◌-◌, ◌<◌, ◌≤◌, true, false, not, ◌||◌, ltb, List, [], ◌∷◌, ◌++◌, map, length, get_or, take, set, Some, None, sym, refl, ap, ◌∙◌, subst, arith}
+use Rattle.std.proofs.lemmas.List.{append_assoc, append-nil, length-take-le, take_more, take_more_set, map_push}
+use Rattle.std.proofs.lemmas.Bool.{and_parts, and_from, not_from_false, le-ltb, lt-ltb, eq-eqb, ne_eqb, cond-true, cond-false, ltb-true, cases_lt}
+use Rattle.std.specs.List.{list_any, HoldsAt}
+use Rattle.std.specs.List.Sorted.{IsNonDecreasingBy, IsPartitionPoint}
+use Rattle.std.specs.Ordering.{nat_cmp, ordering_index}
+use Rattle.std.proofs.lemmas.Cmp.{ranked}
+use Rattle.std.proofs.lemmas.Bool.Decides.{nat_tests}
 use Rattle.margin.specs.declared.contract.Contract.{Contract}
+use Rattle.margin.specs.declared.listing.Listing.{Listing}
 use Rattle.margin.specs.ByCode.{by_code, index}
 use Rattle.margin.specs.Terms.{Terms, terms_of}
 use Rattle.margin.specs.Listed.{last_code, above, rising_from, clashes, clashes_any, agreeing_after}
 
--- what is left of the contracts from `i` on, one contract further
-pub clash_step : (cs : List Contract) (i : ℕ) (x : Contract) (t : Terms) → i < length cs → x ≡ get_or cs i x →
-    clashes_any (map terms_of (drop i cs)) t ≡ (clashes (terms_of x) t || clashes_any (map terms_of (drop (i + 1) cs)) t)
-clash_step cs i x t h is =
-    let step : clashes_any (map terms_of (drop i cs)) t ≡ (clashes (terms_of (get_or cs i x)) t || clashes_any (map terms_of (drop (i + 1) cs)) t) = at_drop_more (λ l. clashes_any (map terms_of l) t) cs i x h in
-    step ∙ ap (λ y. clashes (terms_of y) t || clashes_any (map terms_of (drop (i + 1) cs)) t) (sym is)
+-- whether one of the contracts clashes with another, asked of each in turn
+pub clash_of_any : (cs : List Contract) (t : Terms) → list_any (λ c. clashes (terms_of c) t) cs ≡ clashes_any (map terms_of cs) t
+clash_of_any [] t = refl
+clash_of_any (c ∷ cs) t = ap (λ b. clashes (terms_of c) t || b) (clash_of_any cs t)
 
 last_push : (before : ℕ) (ts : List Terms) (t : Terms) → last_code before (ts ++ t ∷ []) ≡ t.code
 last_push before [] t = refl
@@ -46,6 +50,10 @@ pub record Room (cs : List Contract) (n : ℕ) (x : Contract) : Type 0 where
   pub fewer : n < 64
   pub last : x ≡ get_or cs (n - 1) x
 
+-- a listing that is not full, of which x is the last
+pub room_of : (l : Listing) (x : Contract) → l.count < 64 → x ≡ get_or l.contracts (l.count - 1) x → Room l.contracts l.count x
+room_of l x fewer last = record { table = l.table; some = l.counted.0; fewer = fewer; last = last }
+
 module _ {cs : List Contract} {n : ℕ} {x : Contract} (r : Room cs n x) (next : Contract) where
   pub few : length (take n cs) < 64
   few = omega (arith, length-take-le n cs (omega arith))
@@ -71,17 +79,49 @@ module _ {cs : List Contract} {n : ℕ} {x : Contract} (r : Room cs n x) (next :
   pub still_agreeing : clashes_any (map terms_of (take n cs)) (terms_of next) ≡ false → agreeing_after [] (map terms_of (take n cs)) ≡ true → agreeing_after [] (map terms_of (take (n + 1) (set cs n next))) ≡ true
   still_agreeing h e = ap (agreeing_after []) terms_joined ∙ agreeing_push [] (map terms_of (take n cs)) (terms_of next) e h
 
--- a code among what is left of the contracts from `i` on
-module _ (cs : List Contract) (i : ℕ) (x : Contract) (code : ℕ) (h : i < length cs) (is : x ≡ get_or cs i x) where
-  rest : drop i cs ≡ x ∷ drop (i + 1) cs
-  rest = drop_more cs i x h ∙ ap (λ y. y ∷ drop (i + 1) cs) (sym is)
+-- codes that rise are above the one before them, and each is above the earlier
+above_before : (before : ℕ) (cs : List Contract) → rising_from before (map terms_of cs) ≡ true → (j : ℕ) (d : Contract) → j < length cs → before < (get_or cs j d).code
+above_before before [] e j d lt = absurd (omega arith)
+above_before before (c ∷ cs) e zero d lt = ltb-true before c.code (and_parts (ltb before c.code) (rising_from c.code (map terms_of cs)) e).0
+above_before before (c ∷ cs) e (suc j) d lt =
+    let p = and_parts (ltb before c.code) (rising_from c.code (map terms_of cs)) e in
+    omega (arith, ltb-true before c.code p.0, above_before c.code cs p.1 j d (omega arith))
 
-  pub code_here : x.code ≡ code → (by_code (drop i cs) code ≡ Some x) × (index (drop i cs) code ≡ 0)
-  code_here e =
-      let same : eqb x.code code ≡ true = eq-eqb _ _ e in
-      (ap (λ l. by_code l code) rest ∙ cond-true _ _ _ same, ap (λ l. index l code) rest ∙ cond-true _ _ _ same)
+codes_rise : (before : ℕ) (cs : List Contract) → rising_from before (map terms_of cs) ≡ true → (i j : ℕ) (d : Contract) → i < j → j < length cs → (get_or cs i d).code < (get_or cs j d).code
+codes_rise before [] e i j d lt within = absurd (omega arith)
+codes_rise before (c ∷ cs) e i zero d lt within = absurd (omega arith)
+codes_rise before (c ∷ cs) e zero (suc j) d lt within = above_before c.code cs (and_parts (ltb before c.code) (rising_from c.code (map terms_of cs)) e).1 j d (omega arith)
+codes_rise before (c ∷ cs) e (suc i) (suc j) d lt within = codes_rise c.code cs (and_parts (ltb before c.code) (rising_from c.code (map terms_of cs)) e).1 i j d (omega arith) (omega arith)
 
-  pub code_later : (x.code ≡ code → ⊥) → (by_code (drop (i + 1) cs) code ≡ by_code (drop i cs) code) × (1 + index (drop (i + 1) cs) code ≡ index (drop i cs) code)
-  code_later ne =
-      let other : eqb x.code code ≡ false = ne_eqb _ _ ne in
-      (sym (ap (λ l. by_code l code) rest ∙ cond-false _ _ _ other), sym (ap (λ l. index l code) rest ∙ cond-false _ _ _ other))
+-- the first contract that has the code is the one of the code, at its place
+first_is : (cs : List Contract) (code i : ℕ) (d : Contract) → i < length cs → (get_or cs i d).code ≡ code → ((j : ℕ) → j < i → (get_or cs j d).code ≡ code → ⊥) →
+    (by_code cs code ≡ Some (get_or cs i d)) × (index cs code ≡ i)
+first_is [] code i d within is other = absurd (omega arith)
+first_is (c ∷ cs) code zero d within is other = let same = eq-eqb c.code code is in (cond-true _ _ _ same, cond-true _ _ _ same)
+first_is (c ∷ cs) code (suc i) d within is other =
+    let ne = ne_eqb c.code code (other 0 (omega arith)) in
+    let rest = first_is cs code i d (omega arith) is (λ j lt. other (suc j) (omega arith)) in
+    (cond-false _ _ _ ne ∙ rest.0, cond-false _ _ _ ne ∙ omega (arith, rest.1))
+
+none_is : (cs : List Contract) (code : ℕ) → ((j : ℕ) (d : Contract) → j < length cs → (get_or cs j d).code ≡ code → ⊥) → by_code cs code ≡ None
+none_is [] code other = refl
+none_is (c ∷ cs) code other = cond-false _ _ _ (ne_eqb c.code code (other 0 c (omega arith))) ∙ none_is cs code (λ j d lt. other (suc j) d (omega arith))
+
+-- what a binary search for a code finds among contracts whose codes rise
+module _ (cs : List Contract) (rising : rising_from 0 (map terms_of cs) ≡ true) (code : ℕ) where
+  comparisons_rise : IsNonDecreasingBy (λ (c : Contract). ordering_index (nat_cmp c.code code)) cs
+  comparisons_rise i j d le within =
+      let up : (get_or cs i d).code ≤ (get_or cs j d).code = grind (arith, codes_rise 0 cs rising i j d, λ (same : i ≡ j). ap (λ k. (get_or cs k d).code) same) in
+      grind (arith, nat_tests)
+
+  pub found_at : (i : ℕ) (d : Contract) → i < length cs → HoldsAt (λ (c : Contract). nat_cmp c.code code ≡ Equal) cs i → (by_code cs code ≡ Some (get_or cs i d)) × (index cs code ≡ i)
+  found_at i d within equal =
+      let is : (get_or cs i d).code ≡ code = ranked _ code _ (sym (equal d)) in
+      first_is cs code i d within is (λ j lt same. omega (arith, codes_rise 0 cs rising j i d lt within))
+
+  pub not_found : (i : ℕ) → (IsNonDecreasingBy (λ (c : Contract). ordering_index (nat_cmp c.code code)) cs → IsPartitionPoint (λ (c : Contract). nat_cmp c.code code ≡ Less) (λ (c : Contract). nat_cmp c.code code ≡ Greater) cs i) → by_code cs code ≡ None
+  not_found i parted =
+      none_is cs code (λ j d within same. ⊎_elim
+      (λ (lt : j < i). let less : (get_or cs j d).code < code = ranked _ code _ (sym ((parted comparisons_rise).0 j d (omega arith) lt)) in omega arith)
+      (λ (le : i ≤ j). let more : code < (get_or cs j d).code = ranked _ code _ (sym ((parted comparisons_rise).1 j d le within)) in omega arith)
+      (cases_lt j i))

@@ -7,7 +7,8 @@ use crate::contract::Contract;
 
 pub mod methods;
 
-// The listed contracts stand first in the table; what stands behind them is not listed.
+// The listed contracts stand first in the table; what stands behind them is not listed. A table and a count, since nothing here
+// allocates, and the library's vector of fixed room asks for a default contract and cannot be copied, as a listing can.
 #[derive(Clone, Copy)]
 pub struct Listing {
     contracts: [Contract; 64],

@@ -1,6 +1,6 @@
 // The six strategies that combine two contracts. A spread buys its first leg and writes its second; a straddle and a strangle write both.
 ghost use Rattle.std.specs.Prelude.{◌≡◌, Some};
-ghost use Rattle.margin.specs.Strategies.{strategy_number, strategy_of, HasNumber, first_written};
+ghost use Rattle.margin.specs.Strategies.{strategy_number, strategy_of, Numbered, first_written};
 
 #[derive(Clone, Copy, PartialEq, Eq)]
 pub enum Strategy {
@@ -12,23 +12,30 @@ pub enum Strategy {
     ShortStrangle = 6,
 }
 
-impl Strategy {
+// A number that no strategy has.
+#[derive(Clone, Copy, PartialEq, Eq, Debug)]
+pub struct UnknownStrategy(pub u8);
+
+impl TryFrom<u8> for Strategy {
+    type Error = UnknownStrategy;
+
+    ghost try_from_gives = { Numbered };
+
     // The strategy of a number, if one has it.
-    pub fn from_number(number: u8) -> Option<Strategy>
-        ensures is { result ≡ strategy_of number }
-        ensures inverse { HasNumber number result }
-    {
+    fn try_from(number: u8) -> Result<Strategy, UnknownStrategy> {
         match number {
-            1 => Some(Strategy::BullCallSpread),
-            2 => Some(Strategy::BearCallSpread),
-            3 => Some(Strategy::BullPutSpread),
-            4 => Some(Strategy::BearPutSpread),
-            5 => Some(Strategy::ShortStraddle),
-            6 => Some(Strategy::ShortStrangle),
-            _ => None,
+            1 => Ok(Strategy::BullCallSpread),
+            2 => Ok(Strategy::BearCallSpread),
+            3 => Ok(Strategy::BullPutSpread),
+            4 => Ok(Strategy::BearPutSpread),
+            5 => Ok(Strategy::ShortStraddle),
+            6 => Ok(Strategy::ShortStrangle),
+            _ => Err(UnknownStrategy(number)),
         }
     }
+}
 
+impl Strategy {
     // The strategy's number.
     pub fn number(self) -> u8
         ensures is { result ≡ strategy_number self }

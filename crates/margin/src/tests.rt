@@ -6,7 +6,7 @@ use crate::scale::listed::ListedScale;
 use crate::scale::raised::RaisedScale;
 use crate::scale::standard::StandardScale;
 use crate::scale::{CombinationScale, LegScale};
-use crate::strategy::Strategy;
+use crate::strategy::{Strategy, UnknownStrategy};
 use std::test::Fail;
 
 // The terms that a margin depends on; prices in hao.
@@ -71,9 +71,12 @@ fn standard_legs(rt: HostRuntime) -> Result<(), Fail> {
 #[test]
 fn strategies_by_number(rt: HostRuntime) {
     for number in 0..=7 {
-        match Strategy::from_number(number) {
-            Some(strategy) => assert_eq!(rt; strategy.number(), number),
-            None => assert!(rt; number == 0 || number == 7),
+        match Strategy::try_from(number) {
+            Ok(strategy) => assert_eq!(rt; strategy.number(), number),
+            Err(unknown) => {
+                assert_eq!(rt; unknown, UnknownStrategy(number));
+                assert!(rt; number == 0 || number == 7);
+            }
         }
     }
 }

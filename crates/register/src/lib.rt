@@ -86,10 +86,5 @@ fn free_row<T: Copy>(rows: &[Row<T>]) -> Option<usize>
 fn first_row<T: Copy>(rows: &[Row<T>], number: u32) -> Option<usize>
     ensures { MatchOption result (NoneBefore rows.now number (length rows.now)) (FirstAt rows.now number) }
 {
-    for (i, row) in rows.iter().enumerate() {
-        if row.number == number {
-            return Some(i);
-        }
-    }
-    None
+    rows.iter().position(|row| row.number == number)
 }

@@ -1,6 +1,6 @@
 // A row of a register: an entry under its number.
 
-// The number of a free row.
+// The number of a free row. The rows are their owner's, and a row numbered 0 is free by rule: so none is an Option.
 pub const FREE: u32 = 0;
 
 #[derive(Clone, Copy)]

@@ -1,5 +1,6 @@
 // A listing is begun with one contract and grows by one at a time.
 ghost use Rattle.std.specs.Prelude.{◌≡◌, true, [], ◌∷◌, map, length};
+ghost use Rattle.std.specs.List.{list_any};
 ghost use Rattle.margin.specs.Terms.{terms_of};
 ghost use Rattle.margin.specs.Listed.{clashes as clash_of, clashes_any, rising_from, agreeing_after};
 ghost use Rattle.margin.specs.Listing.{listed, listed_terms, Joins, Finds};
@@ -19,29 +20,9 @@ fn clash(earlier: &Contract, later: &Contract) -> bool
 
 // Whether one of the contracts clashes with a later one.
 fn clashing(contracts: &[Contract], later: &Contract) -> bool
-    ensures { result ≡ clashes_any (map terms_of contracts.now) (terms_of later.now) }
+    ensures { result ≡ list_any (λ e. clash_of (terms_of e) (terms_of later.now)) contracts.now }
 {
-    for earlier in contracts {
-        if clash(earlier, later) {
-            return true;
-        }
-    }
-    false
-}
-
-// The place of a code among contracts, and its contract.
-fn find_among(contracts: &[Contract], code: u32) -> Option<Listed>
-    ensures { Finds contracts.now code result }
-{
-    for (place, contract) in contracts.iter().enumerate() {
-        if contract.code == code {
-            return Some(Listed {
-                place,
-                contract: *contract,
-            });
-        }
-    }
-    None
+    contracts.iter().any(|earlier| clash(earlier, later))
 }
 
 impl Listing {
@@ -69,7 +50,14 @@ impl Listing {
     pub fn find(&self, code: u32) -> Option<Listed>
         ensures { Finds (listed self.now) code result }
     {
-        find_among(self.contracts(), code)
+        let contracts = self.contracts();
+        match contracts.binary_search_by_key(&code, |contract| contract.code) {
+            Ok(place) => Some(Listed {
+                place,
+                contract: contracts[place],
+            }),
+            Err(_) => None,
+        }
     }
 
     // Lists one more contract behind the others.

@@ -24,6 +24,7 @@ impl LegScale for ListedScale {
     }
 }
 
+// The standard scale's text again: a default of `pair_of` cannot name `leg_of`, and one impl for all leg scales overlaps the raised.
 impl CombinationScale for ListedScale {
     ghost pair_of = { λ s. listed_meaning.pair };
 
