@@ -1,5 +1,5 @@
 -- The answer to a combine, put together from its parts.
-use Rattle.std.proofs.Common.{◌≡◌, ℕ, ◌-◌, ◌*◌, ◌≤◌, Bool, true, not, ◌||◌, ltb, List, [], ◌∷◌, Some, None, Ok, Option, sym, refl, ap, ◌∙◌, subst, ⊎_elim, arith}
+use Rattle.std.proofs.Common.{◌≡◌, ℕ, ◌-◌, ◌*◌, ◌≤◌, Bool, true, false, cond, not, ◌||◌, ltb, List, [], ◌∷◌, Some, None, Ok, Err, Option, Result, sym, refl, ap, ◌∙◌, subst, ⊎_elim, arith}
 use Rattle.std.proofs.lemmas.Bool.{cases_eq}
 use Rattle.register.specs.Numbers.{next_of, moved_on}
 use Rattle.margin.specs.declared.contract.Contract.{Contract}
@@ -8,34 +8,77 @@ use Rattle.margin.specs.ByCode.{by_code}
 use Rattle.margin.specs.Fits.{fits}
 use Rattle.margin.specs.Meaning.{Meaning}
 use Rattle.margin.specs.Strategies.{first_written}
+use Rattle.ledger.specs.declared.refusal.Refusal.{Refusal}
 use Rattle.ledger.specs.declared.tables.Position.{Position}
 use Rattle.ledger.specs.declared.tables.Tables.{Tables}
 use Rattle.ledger.specs.Amounts.{pair_per_lot, legs_per_lot}
 use Rattle.ledger.specs.CombinationRules.{fit_together, pair_tests, legs_short, pair_entry_tests, combine_tests, margins_moved, CombinationTaken, CombinedAs}
 use Rattle.ledger.specs.Law.{contracts_of, position_of}
 use Rattle.ledger.specs.Ledger.{Ledger}
-use Rattle.ledger.specs.Moves.{at, funds_to, combinations_to, lock_first, locking_written}
+use Rattle.ledger.specs.Moves.{at, funds_to, combinations_to, free_bought, free_written, lock_first, locking_written}
 use Rattle.ledger.specs.Runs.{Law}
 use Rattle.ledger.specs.Tests.{Answer, first_met, bad_account, bad_lots, is_none, meets, no_row, no_number}
 use Rattle.ledger.proofs.Codes.{held_here, held_else}
 use Rattle.ledger.proofs.Tests.{met_front, met_back}
+use Rattle.book.specs.declared.parts.Side.{Side}
+use Rattle.book.specs.Checks.{Passes}
+use Rattle.book.specs.Sides.{free_on, side_of}
+use Rattle.book.proofs.Lawful.{FewLocked, locked_few}
 
 -- the tests of a pair that follow that of the account, by what is listed
 abbrev after_account : Option Strategy → ℕ → Option Contract → Option Contract → List (ℕ × Bool)
 after_account s lots o p = (12, is_none o || is_none p) ∷ bad_lots lots ∷ (15, not (meets s (λ x. fit_together x o p))) ∷ []
 
-module _ (b : Tables) (a first second lots : ℕ) (c d : Contract) (account : first_met (bad_account a ∷ []) ≡ None) (one : by_code (contracts_of b) first ≡ Some c) (other : by_code (contracts_of b) second ≡ Some d) where
-  listed : (s : Option Strategy) → first_met (pair_tests b s a first second lots) ≡ first_met (bad_lots lots ∷ (15, not (meets s (λ x. fits x c d))) ∷ [])
-  listed s =
-      met_back (bad_account a ∷ []) (after_account s lots (by_code (contracts_of b) first) (by_code (contracts_of b) second)) account
-      ∙ ap (λ o. first_met (after_account s lots o (by_code (contracts_of b) second))) one ∙ ap (λ o. first_met (after_account s lots (Some c) o)) other
+module _ (b : Tables) (a first second lots : ℕ) where
+  abbrev one : Option Contract
+  one = by_code (contracts_of b) first
 
-  pub no_lots : (s : Option Strategy) (n : ℕ) → first_met (bad_lots lots ∷ []) ≡ Some n → first_met (pair_tests b s a first second lots) ≡ Some n
-  no_lots s n e = listed s ∙ met_front (bad_lots lots ∷ []) ((15, not (meets s (λ x. fits x c d))) ∷ []) n e
+  abbrev other : Option Contract
+  other = by_code (contracts_of b) second
 
-  module _ (good : first_met (bad_lots lots ∷ []) ≡ None) where
-    pub fitted : (x : Strategy) → fits x c d ≡ true → first_met (pair_tests b (Some x) a first second lots) ≡ None
-    fitted x fit = listed (Some x) ∙ met_back (bad_lots lots ∷ []) ((15, not (fits x c d)) ∷ []) good ∙ ap (λ t. first_met ((15, not t) ∷ [])) fit
+  abbrev tests : Option Strategy → Option ℕ
+  tests s = first_met (pair_tests b s a first second lots)
+
+  pub no_account : (s : Option Strategy) (n : ℕ) → first_met (bad_account a ∷ []) ≡ Some n → tests s ≡ Some n
+  no_account s n e = met_front (bad_account a ∷ []) (after_account s lots one other) n e
+
+  module _ (account : first_met (bad_account a ∷ []) ≡ None) where
+    past_account : (s : Option Strategy) → tests s ≡ first_met (after_account s lots one other)
+    past_account s = met_back (bad_account a ∷ []) (after_account s lots one other) account
+
+    pub no_first : (s : Option Strategy) → one ≡ None → tests s ≡ Some 12
+    no_first s e = past_account s ∙ ap (λ o. first_met (after_account s lots o other)) e
+
+    module _ (c : Contract) (one_is : one ≡ Some c) where
+      past_first : (s : Option Strategy) → tests s ≡ first_met (after_account s lots (Some c) other)
+      past_first s = past_account s ∙ ap (λ o. first_met (after_account s lots o other)) one_is
+
+      pub no_second : (s : Option Strategy) → other ≡ None → tests s ≡ Some 12
+      no_second s e = past_first s ∙ ap (λ o. first_met (after_account s lots (Some c) o)) e
+
+      module _ (d : Contract) (other_is : other ≡ Some d) where
+        listed : (s : Option Strategy) → tests s ≡ first_met (bad_lots lots ∷ (15, not (meets s (λ x. fits x c d))) ∷ [])
+        listed s = past_first s ∙ ap (λ o. first_met (after_account s lots (Some c) o)) other_is
+
+        pub no_lots : (s : Option Strategy) (n : ℕ) → first_met (bad_lots lots ∷ []) ≡ Some n → tests s ≡ Some n
+        no_lots s n e = listed s ∙ met_front (bad_lots lots ∷ []) ((15, not (meets s (λ x. fits x c d))) ∷ []) n e
+
+        module _ (good : first_met (bad_lots lots ∷ []) ≡ None) where
+          past_lots : (s : Option Strategy) → tests s ≡ first_met ((15, not (meets s (λ x. fits x c d))) ∷ [])
+          past_lots s = listed s ∙ met_back (bad_lots lots ∷ []) ((15, not (meets s (λ x. fits x c d))) ∷ []) good
+
+          pub no_strategy : (s : Option Strategy) → None ≡ s → tests s ≡ Some 15
+          no_strategy s is = past_lots s ∙ ap (λ o. first_met ((15, not (meets o (λ x. fits x c d))) ∷ [])) (sym is)
+
+          module _ (s : Option Strategy) (x : Strategy) (is : Some x ≡ s) where
+            past_strategy : tests s ≡ first_met ((15, not (fits x c d)) ∷ [])
+            past_strategy = past_lots s ∙ ap (λ o. first_met ((15, not (meets o (λ y. fits y c d))) ∷ [])) (sym is)
+
+            pub not_fitted : fits x c d ≡ false → tests s ≡ Some 15
+            not_fitted fit = past_strategy ∙ ap (λ t. first_met ((15, not t) ∷ [])) fit
+
+            pub fitted : fits x c d ≡ true → tests s ≡ None
+            fitted fit = past_strategy ∙ ap (λ t. first_met ((15, not t) ∷ [])) fit
 
 module _ (m : Meaning) (b : Tables) (a first second lots : ℕ) where
   abbrev legs : Strategy → ℕ
@@ -62,10 +105,10 @@ module _ (m : Meaning) (b : Tables) (a first second lots : ℕ) where
         ∙ ap (λ x. first_met (pair_entry_tests b x (pair s))) (sym p) ∙ ap (λ x. first_met (pair_entry_tests b back x)) (sym q)
 
   -- entered, then the first leg locked, then the second
-  pub combined_as : (s : Strategy) (back taken : ℕ) (x : ℕ × ℕ) (entered one after : Tables) → back ≡ legs s → taken ≡ pair s →
+  pub combined_as : (s : Strategy) (back taken : ℕ) (x : ℕ × ℕ) (entered first_moved after : Tables) → back ≡ legs s → taken ≡ pair s →
       CombinationTaken b (record { account = a; strategy = s; first = first; second = second; lots = lots; engaged = 0 }) (funds_to (margins_moved back taken b.funds) b) (Ok x) entered →
-      one ≡ at a first (lock_first s lots) entered → after ≡ at a second (locking_written lots) one → CombinedAs m b s a first second lots (Ok x) after
-  combined_as s back taken x entered one after p q e o f =
+      first_moved ≡ at a first (lock_first s lots) entered → after ≡ at a second (locking_written lots) first_moved → CombinedAs m b s a first second lots (Ok x) after
+  combined_as s back taken x entered first_moved after p q e o f =
       let next : Tables → Tables = at a second (locking_written lots) in
       let both : Tables → Tables = λ t. next (at a first (lock_first s lots) t) in
       let rows = e.0 in
@@ -81,30 +124,49 @@ module _ (m : Meaning) (b : Tables) (a first second lots : ℕ) where
         ),
       )
 
--- what is locked stays small enough for lots more
-pub record FewLocked (p : Position) (most : ℕ) : Type 0 where
-  pub bought : p.locked_bought ≤ most
-  pub written : p.locked_written ≤ most
-
 locked_more : (t : Bool) (s : Strategy) (lots : ℕ) (p : Position) → first_written s ≡ t → lots ≤ 1000 → FewLocked p 10000 → FewLocked (lock_first s lots p) 11000
 locked_more t s lots p e few k = record { bought = grind arith; written = grind arith }
 
 module _ (m : Meaning) (b : Tables) (l : Ledger) (law : Law m l b) (a : ℕ) (low : 1 ≤ a) (high : a ≤ 8) where
-  pub locked_few : (code : ℕ) (c : Contract) → by_code (contracts_of b) code ≡ Some c → FewLocked (position_of b a code) 10000
-  locked_few code c listed =
-      let lot = law.beside.lots a code c low high listed in
-      record {
-        bought = omega (arith, lot.locked_bought, lot.bought_free, law.sound.bought_most a code);
-        written = omega (arith, lot.locked_written, lot.written_free, law.sound.written_most a code);
-      }
-
   pub second_few : (s : Strategy) (lots first second : ℕ) (c d : Contract) → lots ≤ 1000 → by_code (contracts_of b) first ≡ Some c → by_code (contracts_of b) second ≡ Some d →
       FewLocked (position_of (at a first (lock_first s lots) b) a second) 11000
   second_few s lots first second c d few is is₂ =
-      let more = locked_more (first_written s) s lots (position_of b a first) refl few (locked_few first c is) in
-      let k = locked_few second d is₂ in
+      let more = locked_more (first_written s) s lots (position_of b a first) refl few (locked_few m b l law a low high first c is) in
+      let k = locked_few m b l law a low high second d is₂ in
       let same : second ≡ first → FewLocked (position_of (at a first (lock_first s lots) b) a second) 11000 =
       λ e. subst (λ z. FewLocked (position_of (at a first (lock_first s lots) b) a z) 11000) (sym e) (subst (λ p. FewLocked p 11000) (sym (held_here b law.sound.count law.sound.position_rows a first c low high is (lock_first s lots))) more) in
       let else : (second ≡ first → ⊥) → FewLocked (position_of (at a first (lock_first s lots) b) a second) 11000 =
       λ ne. subst (λ p. FewLocked p 11000) (sym (held_else b law.sound.count law.sound.position_rows a first c low high is (lock_first s lots) a second d low is₂ (λ z. ne z.1))) (record { bought = omega (arith, k.bought); written = omega (arith, k.written) }) in
       ⊎_elim same else (cases_eq second first)
+
+-- one of two tests under one number, where the first is met, and where it is not
+first_of_two : (x y : Bool) (n : ℕ) → first_met ((18, x) ∷ []) ≡ Some n → first_met ((18, x || y) ∷ []) ≡ Some n
+first_of_two true y n e = e
+first_of_two false y n e = let z : ◌≡◌ {A = ℕ} 0 1 = cc in absurd (omega arith)
+
+second_of_two : (x y : Bool) → first_met ((18, x) ∷ []) ≡ None → first_met ((18, x || y) ∷ []) ≡ first_met ((18, y) ∷ [])
+second_of_two true y e = let z : ◌≡◌ {A = ℕ} 0 1 = cc in absurd (omega arith)
+second_of_two false y e = refl
+
+free_by_side : (t : Bool) (p : Position) → free_on (side_of t) p ≡ cond t (free_written p) (free_bought p)
+free_by_side true p = refl
+free_by_side false p = refl
+
+module _ (b : Tables) (s : Strategy) (a first second lots : ℕ) (side : Side) (is : side ≡ side_of (first_written s)) where
+  abbrev first_leg : Bool
+  first_leg = ltb (free_on side (position_of b a first)) lots
+
+  abbrev second_leg : Bool
+  second_leg = ltb (free_written (position_of b a second)) lots
+
+  short_is : first_met ((18, legs_short b s a first second lots) ∷ []) ≡ first_met ((18, first_leg || second_leg) ∷ [])
+  short_is =
+      ap (λ x. first_met ((18, ltb x lots || second_leg) ∷ [])) (sym (free_by_side (first_written s) (position_of b a first)))
+      ∙ ap (λ x. first_met ((18, ltb (free_on x (position_of b a first)) lots || second_leg) ∷ [])) (sym is)
+
+  pub first_short : (n : ℕ) → first_met ((18, first_leg) ∷ []) ≡ Some n → first_met ((18, legs_short b s a first second lots) ∷ []) ≡ Some n
+  first_short n e = short_is ∙ first_of_two first_leg second_leg n e
+
+  pub past_first_leg : {T : Type 0} → first_met ((18, first_leg) ∷ []) ≡ None → (r : Result T Refusal) → Passes ((18, second_leg) ∷ []) r → Passes ((18, legs_short b s a first second lots) ∷ []) r
+  past_first_leg e (Ok x) h = short_is ∙ second_of_two first_leg second_leg e ∙ h
+  past_first_leg e (Err y) h = short_is ∙ second_of_two first_leg second_leg e ∙ h

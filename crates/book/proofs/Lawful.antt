@@ -1,11 +1,12 @@
 -- What the law says of a book that its calls rest on.
-use Rattle.std.proofs.Common.{◌≡◌, ℕ, ◌≤◌, Some, None, Option, sym, refl, ap, ◌∙◌, subst, arith}
+use Rattle.std.proofs.Common.{◌≡◌, ℕ, ◌+◌, ◌^◌, ◌<◌, ◌≤◌, Some, None, Option, sym, refl, ap, ◌∙◌, subst, arith}
 use Rattle.register.specs.Rows.{lookup}
 use Rattle.margin.specs.declared.contract.Contract.{Contract}
 use Rattle.margin.specs.ByCode.{by_code}
 use Rattle.margin.specs.Meaning.{Meaning}
 use Rattle.ledger.specs.declared.order.Combination.{Combination}
 use Rattle.ledger.specs.declared.order.Order.{Order}
+use Rattle.ledger.specs.declared.tables.Position.{Position}
 use Rattle.ledger.specs.declared.tables.Tables.{Tables}
 use Rattle.ledger.specs.Content.{Pairing}
 use Rattle.ledger.specs.Ledger.{Ledger, under}
@@ -24,6 +25,11 @@ pub record Shown (eng : ℕ) (o : Option Pairing) (k : Combination) : Type 0 whe
 shown : (eng : ℕ) (o : Option Pairing) (k : Combination) → combination_under eng o ≡ Some k → Shown eng o k
 shown eng None k e = let z : ◌≡◌ {A = ℕ} 0 1 = cc in absurd (omega arith)
 shown eng (Some p) k e = record { pairing = p; stands = refl; content_is = ap content (some_same e); engaged_is = sym (ap (λ (x : Combination). x.engaged) (some_same e)) }
+
+-- what is locked stays small enough for lots more
+pub record FewLocked (p : Position) (most : ℕ) : Type 0 where
+  pub bought : p.locked_bought ≤ most
+  pub written : p.locked_written ≤ most
 
 module _ (m : Meaning) (b : Tables) (l : Ledger) (law : Law m l b) where
   -- a standing combination, by its ledger's content
@@ -47,8 +53,20 @@ module _ (m : Meaning) (b : Tables) (l : Ledger) (law : Law m l b) where
     cash = omega (arith, law.beside.cash, law.sound.cash);
   }
 
+  pub funds_fit : b.funds.balance + b.funds.reserved < 2 ^ 64
+  funds_fit = let f = funds_within in omega (arith, f.balance, f.reserved)
+
   -- no side of a position passes 10,000 lots
   pub lots_within : (a code : ℕ) (c : Contract) → 1 ≤ a → a ≤ 8 → by_code (contracts_of b) code ≡ Some c → ((position_of b a code).bought ≤ 10000) × ((position_of b a code).written ≤ 10000)
   lots_within a code c low high listed =
       let lots = law.beside.lots a code c low high listed in
       (omega (arith, lots.bought, law.sound.bought_most a code), omega (arith, lots.written, law.sound.written_most a code))
+
+  module _ (a : ℕ) (low : 1 ≤ a) (high : a ≤ 8) where
+    pub locked_few : (code : ℕ) (c : Contract) → by_code (contracts_of b) code ≡ Some c → FewLocked (position_of b a code) 10000
+    locked_few code c listed =
+        let lot = law.beside.lots a code c low high listed in
+        record {
+          bought = omega (arith, lot.locked_bought, lot.bought_free, law.sound.bought_most a code);
+          written = omega (arith, lot.locked_written, lot.written_free, law.sound.written_most a code);
+        }

@@ -1,5 +1,7 @@
 mod OpenTables
 mod Working
+mod Terms
+mod Answering
 mod Ordering
 mod Pricing
 mod Lawful

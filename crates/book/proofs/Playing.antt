@@ -3,15 +3,11 @@ use Rattle.std.proofs.Common.{◌≡◌, List, [], ◌∷◌, ◌++◌, refl, ap
 use Rattle.margin.specs.Meaning.{Meaning}
 use Rattle.ledger.specs.declared.call.Call.{Call}
 use Rattle.ledger.specs.declared.tables.Tables.{Tables}
-use Rattle.ledger.specs.Runs.{Event, Run, ByTheRules}
-use Rattle.ledger.specs.Runs.Run.{start, onward}
+use Rattle.ledger.specs.Runs.{Event, ByTheRules}
+use Rattle.ledger.specs.Runs.Run.{start}
 use Rattle.ledger.specs.Tests.{Answer}
-use Rattle.ledger.proofs.Running.{run_law}
+use Rattle.ledger.proofs.Running.{run_on, run_law}
 use Rattle.book.specs.Played.{calls_of, Played}
-
-run_on : (m : Meaning) (b mid after : Tables) (es : List Event) (e : Event) → Run m b es mid → ByTheRules m mid e.made e.answer after → Run m b (es ++ e ∷ []) after
-run_on m b mid after [] e start step = onward step start
-run_on m b mid after (d ∷ es) e (onward {after = next} first rest) step = onward first (run_on m next mid after es e rest step)
 
 calls_on : (es : List Event) (e : Event) → calls_of (es ++ e ∷ []) ≡ calls_of es ++ e.made ∷ []
 calls_on [] e = refl

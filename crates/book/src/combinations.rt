@@ -3,7 +3,7 @@ ghost use Rattle.std.specs.Prelude.{◌≡◌, ℕ, ◌+◌, ◌-◌, ◌^◌, �
 ghost use Rattle.margin.specs.Meaning.{meaning};
 ghost use Rattle.margin.specs.Strategies.{strategy_number, strategy_of};
 ghost use Rattle.ledger.specs.declared.call.Call.TheVariants.{Combine as CombineCall, LegClose as LegCloseCall, Release as ReleaseCall};
-ghost use Rattle.ledger.specs.CombinationRules.{pair_tests, legs_short, pair_entry_tests, CombinationTaken, CombineRule, margins_moved, leg_terms_tests, leg_checks, ReleaseRule, LegCloseRule};
+ghost use Rattle.ledger.specs.CombinationRules.{pair_tests, legs_short, pair_entry_tests, CombinationTaken, CombineRule, margins_moved, leg_checks, ReleaseRule, LegCloseRule};
 ghost use Rattle.ledger.specs.Moves.{funds_to, with_lots};
 ghost use Rattle.ledger.specs.Law.{contracts_of};
 ghost use Rattle.ledger.specs.Tests.{ByTests};
@@ -14,7 +14,7 @@ ghost use Rattle.book.specs.Checks.{Passes};
 ghost use Rattle.book.specs.Facts.{FundsWithin, PairNamed};
 
 use crate::Book;
-use crate::parts::{check_account, check_free, check_lots, check_price, times};
+use crate::parts::{Side, check_account, check_free, check_lots, first_side, times};
 use ledger::order::{Combination, Order, OrderKind};
 use ledger::refusal::Refusal;
 use ledger::tables::Funds;
@@ -112,15 +112,11 @@ impl Book {
         requires lots { 1 ≤ combination.now.lots }
         ensures { Passes ((18, legs_short (tables_of self.now) combination.now.strategy combination.now.account combination.now.first combination.now.second combination.now.lots) ∷ []) result }
     {
+        let account = combination.account;
         let lots = combination.lots;
-        let first = self.tables.positions[self.row_of(combination.account, combination.first)];
-        let second = self.tables.positions[self.row_of(combination.account, combination.second)];
-        if combination.strategy.first_written() {
-            check_free(first.written, first.locked_written, lots)?;
-        } else {
-            check_free(first.bought, first.locked_bought, lots)?;
-        }
-        check_free(second.written, second.locked_written, lots)
+        let side = first_side(combination.strategy);
+        self.check_free_lots(side, account, combination.first, lots)?;
+        self.check_free_lots(Side::Written, account, combination.second, lots)
     }
 
     // Enters a combination, and puts its margin in the place of its legs'.
@@ -173,7 +169,7 @@ impl Book {
         let taken = times(lots, scale.pair(&pair));
         let answer = self.enter_combination(combination, back, taken)?;
         self.lock_first(&combination, lots);
-        self.lock_written(account, second, lots);
+        self.lock_lots(Side::Written, account, second, lots);
         Ok(answer)
     }
 
@@ -200,21 +196,8 @@ impl Book {
         self.regroup(back, taken);
         self.take_off_combination(combination, &entry, lots, 0);
         self.unlock_first(&entry, lots);
-        self.unlock_written(entry.account, entry.second, lots);
+        self.unlock_lots(Side::Written, entry.account, entry.second, lots);
         Ok((0, self.tables.funds.balance))
-    }
-
-    // Whether the leg of a leg close is listed, and its lots and limit are good.
-    fn check_leg_terms(&self, leg: u32, lots: u32, limit: u64) -> Result<(), Refusal>
-        ensures tests { Passes (leg_terms_tests (tables_of self.now) leg lots limit) result }
-        ensures ranges { OnOk result ((1 ≤ lots) × (lots ≤ 1000) × (limit ≤ 10 ^ 7)) }
-    {
-        let Some(_listed) = self.tables.listing.find(leg) else {
-            return Err(Refusal::NotListed);
-        };
-        check_lots(lots)?;
-        check_price(limit)?;
-        Ok(())
     }
 
     // Whether one leg of a combination may be closed: its strategy is permitted, the leg is written, and so many lots are not
@@ -246,7 +229,7 @@ impl Book {
         ensures answer { LegCloseRule (meaning S.LegScale.leg_of S.CombinationScale.pair_of scale.now) (tables_of self.old) combination leg lots limit result (tables_of self.new) }
         ensures law { KeptBy (meaning S.LegScale.leg_of S.CombinationScale.pair_of scale.now) (tables_of self.old) (LegCloseCall combination leg lots limit) result (tables_of self.new) }
     {
-        self.check_leg_terms(leg, lots, limit)?;
+        self.check_contract(leg, lots, limit)?;
         let Some(entry) = register::find(&self.tables.combinations, combination) else {
             return Err(Refusal::NotStanding);
         };
@@ -257,16 +240,13 @@ impl Book {
             combination,
             contract: leg,
         };
-        let account = entry.account;
-        let answer = self.enter(
-            Order {
-                account,
-                kind,
-                lots,
-                limit,
-            },
-            reserve,
-        )?;
+        let order = Order {
+            account: entry.account,
+            kind,
+            lots,
+            limit,
+        };
+        let answer = self.enter(order, reserve)?;
         let _ = register::change(&mut self.tables.combinations, combination, engaged);
         Ok(answer)
     }

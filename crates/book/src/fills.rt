@@ -13,7 +13,7 @@ ghost use Rattle.book.specs.Checks.{Passes, fill_checks};
 ghost use Rattle.book.specs.Facts.{AllSound, FundsWithin};
 
 use crate::Book;
-use crate::parts::{check_lots, check_price, times};
+use crate::parts::{Side, check_lots, check_price, times};
 use ledger::order::{Combination, Order, OrderKind};
 use ledger::refusal::Refusal;
 use margin::scale::{CombinationScale, LegScale};
@@ -62,19 +62,17 @@ impl Book {
         requires contract { IsListed (contracts_of (tables_of self.old)) (contract_in order.now.kind) }
         ensures { tables_of self.new ≡ freed (tables_of self.old) order.now.kind order.now (tables_of self.old) }
     {
+        let account = order.account;
+        let lots = order.lots;
         match order.kind {
             OrderKind::SellOpen { .. } | OrderKind::BuyOpen { .. } => {}
-            OrderKind::BuyClose { contract } => self.unlock_written(
-                order.account,
-                contract,
-                order.lots,
-            ),
-            OrderKind::SellClose { contract } => self.unlock_bought(
-                order.account,
-                contract,
-                order.lots,
-            ),
-            OrderKind::LegClose { combination, .. } => self.disengage(combination, order.lots),
+            OrderKind::BuyClose { contract } => {
+                self.unlock_lots(Side::Written, account, contract, lots)
+            }
+            OrderKind::SellClose { contract } => {
+                self.unlock_lots(Side::Bought, account, contract, lots)
+            }
+            OrderKind::LegClose { combination, .. } => self.disengage(combination, lots),
         }
     }
 
@@ -144,11 +142,11 @@ impl Book {
         let taken = times(lots, self.other_leg_margin(scale, &combination, leg));
         self.settle(reserve, 0, paid, back, taken);
         self.take_off_combination(number, &combination, lots, lots);
-        self.close_written(order.account, leg, lots);
+        self.close_lots(Side::Written, order.account, leg, lots);
         if leg == combination.second {
             self.unlock_first(&combination, lots);
         } else {
-            self.unlock_written(combination.account, combination.second, lots);
+            self.unlock_lots(Side::Written, combination.account, combination.second, lots);
         }
     }
 
@@ -169,25 +167,25 @@ impl Book {
                 let margin = times(lots, self.leg_margin(scale, contract));
                 let received = self.premium_of(contract, lots, price);
                 self.settle(margin, received, 0, 0, margin);
-                self.add_written(order.account, contract, lots);
+                self.add_lots(Side::Written, order.account, contract, lots);
             }
             OrderKind::BuyOpen { contract } => {
                 let reserve = self.premium_of(contract, lots, order.limit);
                 let paid = self.premium_of(contract, lots, price);
                 self.settle(reserve, 0, paid, 0, 0);
-                self.add_bought(order.account, contract, lots);
+                self.add_lots(Side::Bought, order.account, contract, lots);
             }
             OrderKind::BuyClose { contract } => {
                 let reserve = self.premium_of(contract, lots, order.limit);
                 let paid = self.premium_of(contract, lots, price);
                 let back = times(lots, self.leg_margin(scale, contract));
                 self.settle(reserve, 0, paid, back, 0);
-                self.close_written(order.account, contract, lots);
+                self.close_lots(Side::Written, order.account, contract, lots);
             }
             OrderKind::SellClose { contract } => {
                 let received = self.premium_of(contract, lots, price);
                 self.settle(0, received, 0, 0, 0);
-                self.close_bought(order.account, contract, lots);
+                self.close_lots(Side::Bought, order.account, contract, lots);
             }
             OrderKind::LegClose {
                 combination,

@@ -1,16 +1,19 @@
 // The movements that calls are made of: funds, one position, lots off an order or a combination.
-ghost use Rattle.std.specs.Prelude.{◌≡◌, ℕ, ◌^◌, ◌<◌, ◌≤◌};
+ghost use Rattle.std.specs.Prelude.{◌≡◌, ℕ, ◌^◌, ◌<◌, ◌≤◌, [], ◌∷◌, nat_lt};
 ghost use Rattle.ledger.specs.FillRules.{fill_funds};
 ghost use Rattle.ledger.specs.Law.{contracts_of, position_of, position_row as row_of};
-ghost use Rattle.ledger.specs.Moves.{funds_to, orders_to, combinations_to, order_rest, combination_rest, at, buying, writing, closing_bought, closing_written, locking_bought, locking_written, lock_first, unlocking_bought, unlocking_written, unlock_first};
+ghost use Rattle.ledger.specs.Moves.{funds_to, orders_to, combinations_to, order_rest, combination_rest, at, lock_first, unlock_first};
 ghost use Rattle.ledger.specs.Runs.{Listed as IsListed};
 ghost use Rattle.book.specs.Book.{tables_of};
+ghost use Rattle.book.specs.Checks.{Passes};
 ghost use Rattle.book.specs.Facts.{FundsWithin};
+ghost use Rattle.book.specs.Sides.{owned_on, locked_on, free_on, adding, closing, locking, unlocking};
 
 use crate::Book;
-use crate::parts::position_row;
+use crate::parts::{Side, check_free, first_side, locked, owned, position_row};
 use ledger::order::{Combination, Order};
-use ledger::tables::{Funds, Position};
+use ledger::refusal::Refusal;
+use ledger::tables::Funds;
 
 impl Book {
     // Brings a reserve and margin back, books a premium on either side, and takes margin. Nothing here stops at nought: the
@@ -44,6 +47,23 @@ impl Book {
             unreachable()
         };
         position_row(account, listed.place)
+    }
+
+    // Whether a side of a position has that many lots that are not locked.
+    pub(crate) fn check_free_lots(
+        &self,
+        side: Side,
+        account: u8,
+        contract: u32,
+        lots: u32,
+    ) -> Result<(), Refusal>
+        requires account { (1 ≤ account) × (account ≤ 8) }
+        requires contract { IsListed (contracts_of (tables_of self.now)) contract }
+        requires lots { 1 ≤ lots }
+        ensures { Passes ((18, nat_lt (free_on side (position_of (tables_of self.now) account contract)) lots) ∷ []) result }
+    {
+        let position = self.tables.positions[self.row_of(account, contract)];
+        check_free(owned(&position, side), locked(&position, side), lots)
     }
 
     // Takes lots off an order; with none left it is removed.
@@ -83,94 +103,72 @@ impl Book {
         }
     }
 
-    // Adds bought lots.
-    pub(crate) fn add_bought(&mut self, account: u8, contract: u32, lots: u32)
+    // Adds lots on a side.
+    pub(crate) fn add_lots(&mut self, side: Side, account: u8, contract: u32, lots: u32)
         requires account { (1 ≤ account) × (account ≤ 8) }
         requires contract { IsListed (contracts_of (tables_of self.old)) contract }
-        requires few { (lots ≤ 1000) × ((position_of (tables_of self.old) account contract).bought ≤ 10000) }
-        ensures { tables_of self.new ≡ at account contract (buying lots) (tables_of self.old) }
+        requires few { (lots ≤ 1000) × (owned_on side (position_of (tables_of self.old) account contract) ≤ 10000) }
+        ensures { tables_of self.new ≡ at account contract (adding side lots) (tables_of self.old) }
     {
         let row = self.row_of(account, contract);
-        let position = self.tables.positions[row];
-        self.tables.positions[row] = Position {
-            bought: position.bought + lots,
-            ..position
-        };
+        let position = &mut self.tables.positions[row];
+        match side {
+            Side::Bought => position.bought += lots,
+            Side::Written => position.written += lots,
+        }
     }
 
-    // Adds written lots.
-    pub(crate) fn add_written(&mut self, account: u8, contract: u32, lots: u32)
+    // Removes locked lots on a side.
+    pub(crate) fn close_lots(&mut self, side: Side, account: u8, contract: u32, lots: u32)
         requires account { (1 ≤ account) × (account ≤ 8) }
         requires contract { IsListed (contracts_of (tables_of self.old)) contract }
-        requires few { (lots ≤ 1000) × ((position_of (tables_of self.old) account contract).written ≤ 10000) }
-        ensures { tables_of self.new ≡ at account contract (writing lots) (tables_of self.old) }
+        ensures { tables_of self.new ≡ at account contract (closing side lots) (tables_of self.old) }
     {
         let row = self.row_of(account, contract);
-        let position = self.tables.positions[row];
-        self.tables.positions[row] = Position {
-            written: position.written + lots,
-            ..position
-        };
+        let position = &mut self.tables.positions[row];
+        match side {
+            Side::Bought => {
+                position.bought = position.bought.saturating_sub(lots);
+                position.locked_bought = position.locked_bought.saturating_sub(lots);
+            }
+            Side::Written => {
+                position.written = position.written.saturating_sub(lots);
+                position.locked_written = position.locked_written.saturating_sub(lots);
+            }
+        }
     }
 
-    // Removes locked bought lots.
-    pub(crate) fn close_bought(&mut self, account: u8, contract: u32, lots: u32)
+    // Locks lots on a side.
+    pub(crate) fn lock_lots(&mut self, side: Side, account: u8, contract: u32, lots: u32)
         requires account { (1 ≤ account) × (account ≤ 8) }
         requires contract { IsListed (contracts_of (tables_of self.old)) contract }
-        ensures { tables_of self.new ≡ at account contract (closing_bought lots) (tables_of self.old) }
+        requires few { (lots ≤ 1000) × (locked_on side (position_of (tables_of self.old) account contract) ≤ 11000) }
+        ensures { tables_of self.new ≡ at account contract (locking side lots) (tables_of self.old) }
     {
         let row = self.row_of(account, contract);
-        let position = self.tables.positions[row];
-        self.tables.positions[row] = Position {
-            bought: position.bought.saturating_sub(lots),
-            locked_bought: position.locked_bought.saturating_sub(lots),
-            ..position
-        };
+        let position = &mut self.tables.positions[row];
+        match side {
+            Side::Bought => position.locked_bought += lots,
+            Side::Written => position.locked_written += lots,
+        }
     }
 
-    // Removes locked written lots.
-    pub(crate) fn close_written(&mut self, account: u8, contract: u32, lots: u32)
+    // Unlocks lots on a side.
+    pub(crate) fn unlock_lots(&mut self, side: Side, account: u8, contract: u32, lots: u32)
         requires account { (1 ≤ account) × (account ≤ 8) }
         requires contract { IsListed (contracts_of (tables_of self.old)) contract }
-        ensures { tables_of self.new ≡ at account contract (closing_written lots) (tables_of self.old) }
+        ensures { tables_of self.new ≡ at account contract (unlocking side lots) (tables_of self.old) }
     {
         let row = self.row_of(account, contract);
-        let position = self.tables.positions[row];
-        self.tables.positions[row] = Position {
-            written: position.written.saturating_sub(lots),
-            locked_written: position.locked_written.saturating_sub(lots),
-            ..position
-        };
-    }
-
-    // Locks bought lots.
-    pub(crate) fn lock_bought(&mut self, account: u8, contract: u32, lots: u32)
-        requires account { (1 ≤ account) × (account ≤ 8) }
-        requires contract { IsListed (contracts_of (tables_of self.old)) contract }
-        requires few { (lots ≤ 1000) × ((position_of (tables_of self.old) account contract).locked_bought ≤ 11000) }
-        ensures { tables_of self.new ≡ at account contract (locking_bought lots) (tables_of self.old) }
-    {
-        let row = self.row_of(account, contract);
-        let position = self.tables.positions[row];
-        self.tables.positions[row] = Position {
-            locked_bought: position.locked_bought + lots,
-            ..position
-        };
-    }
-
-    // Locks written lots.
-    pub(crate) fn lock_written(&mut self, account: u8, contract: u32, lots: u32)
-        requires account { (1 ≤ account) × (account ≤ 8) }
-        requires contract { IsListed (contracts_of (tables_of self.old)) contract }
-        requires few { (lots ≤ 1000) × ((position_of (tables_of self.old) account contract).locked_written ≤ 11000) }
-        ensures { tables_of self.new ≡ at account contract (locking_written lots) (tables_of self.old) }
-    {
-        let row = self.row_of(account, contract);
-        let position = self.tables.positions[row];
-        self.tables.positions[row] = Position {
-            locked_written: position.locked_written + lots,
-            ..position
-        };
+        let position = &mut self.tables.positions[row];
+        match side {
+            Side::Bought => {
+                position.locked_bought = position.locked_bought.saturating_sub(lots);
+            }
+            Side::Written => {
+                position.locked_written = position.locked_written.saturating_sub(lots);
+            }
+        }
     }
 
     // Locks the first leg of a combination, on its side.
@@ -180,39 +178,8 @@ impl Book {
         requires few { (lots ≤ 1000) × ((position_of (tables_of self.old) combination.now.account combination.now.first).locked_bought ≤ 11000) × ((position_of (tables_of self.old) combination.now.account combination.now.first).locked_written ≤ 11000) }
         ensures { tables_of self.new ≡ at combination.now.account combination.now.first (lock_first combination.now.strategy lots) (tables_of self.old) }
     {
-        if combination.strategy.first_written() {
-            self.lock_written(combination.account, combination.first, lots);
-        } else {
-            self.lock_bought(combination.account, combination.first, lots);
-        }
-    }
-
-    // Unlocks bought lots.
-    pub(crate) fn unlock_bought(&mut self, account: u8, contract: u32, lots: u32)
-        requires account { (1 ≤ account) × (account ≤ 8) }
-        requires contract { IsListed (contracts_of (tables_of self.old)) contract }
-        ensures { tables_of self.new ≡ at account contract (unlocking_bought lots) (tables_of self.old) }
-    {
-        let row = self.row_of(account, contract);
-        let position = self.tables.positions[row];
-        self.tables.positions[row] = Position {
-            locked_bought: position.locked_bought.saturating_sub(lots),
-            ..position
-        };
-    }
-
-    // Unlocks written lots.
-    pub(crate) fn unlock_written(&mut self, account: u8, contract: u32, lots: u32)
-        requires account { (1 ≤ account) × (account ≤ 8) }
-        requires contract { IsListed (contracts_of (tables_of self.old)) contract }
-        ensures { tables_of self.new ≡ at account contract (unlocking_written lots) (tables_of self.old) }
-    {
-        let row = self.row_of(account, contract);
-        let position = self.tables.positions[row];
-        self.tables.positions[row] = Position {
-            locked_written: position.locked_written.saturating_sub(lots),
-            ..position
-        };
+        let side = first_side(combination.strategy);
+        self.lock_lots(side, combination.account, combination.first, lots);
     }
 
     // Unlocks the first leg of a combination, on its side.
@@ -221,10 +188,7 @@ impl Book {
         requires contract { IsListed (contracts_of (tables_of self.old)) combination.now.first }
         ensures { tables_of self.new ≡ at combination.now.account combination.now.first (unlock_first combination.now.strategy lots) (tables_of self.old) }
     {
-        if combination.strategy.first_written() {
-            self.unlock_written(combination.account, combination.first, lots);
-        } else {
-            self.unlock_bought(combination.account, combination.first, lots);
-        }
+        let side = first_side(combination.strategy);
+        self.unlock_lots(side, combination.account, combination.first, lots);
     }
 }

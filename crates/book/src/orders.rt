@@ -3,33 +3,26 @@ ghost use Rattle.std.specs.Prelude.{◌≡◌, ℕ, ◌+◌, ◌*◌, ◌^◌, �
 ghost use Rattle.margin.specs.ByCode.{by_code, index};
 ghost use Rattle.margin.specs.Meaning.{meaning};
 ghost use Rattle.ledger.specs.declared.call.Call.TheVariants.{SellOpen as SellOpenCall, BuyOpen as BuyOpenCall, BuyClose as BuyCloseCall, SellClose as SellCloseCall};
-ghost use Rattle.ledger.specs.Law.{contracts_of};
+ghost use Rattle.ledger.specs.CombinationRules.{leg_terms_tests};
+ghost use Rattle.ledger.specs.Law.{contracts_of, position_of};
 ghost use Rattle.ledger.specs.Tests.{ByTests};
 ghost use Rattle.ledger.specs.OrderRules.{terms_tests, enter_tests, working_sum, too_many, OrderTaken, SellOpenRule, BuyOpenRule, BuyCloseRule, SellCloseRule};
-ghost use Rattle.ledger.specs.Runs.{Kept};
+ghost use Rattle.ledger.specs.Runs.{Kept, Listed as IsListed};
 ghost use Rattle.ledger.specs.Keeps.{KeptBy};
 ghost use Rattle.book.specs.Book.{tables_of};
 ghost use Rattle.book.specs.Checks.{Passes, Found};
-ghost use Rattle.book.specs.Sides.{opens};
+ghost use Rattle.book.specs.Sides.{opens, owned_on};
 
 use crate::Book;
-use crate::parts::{check_account, check_free, check_lots, check_price, position_row, premium};
+use crate::parts::{Side, check_account, check_lots, check_price, owned, premium};
 use ledger::order::{Order, OrderKind};
 use ledger::refusal::Refusal;
-use ledger::tables::Position;
 use margin::listing::Listed;
 use margin::scale::{CombinationScale, LegScale};
 use register::row::{FREE, Row};
 
 // The lots of one side of one position, owned and working to open, never pass this.
 const MOST_LOTS: u64 = 10_000;
-
-// The side of a position.
-#[derive(Clone, Copy)]
-pub(crate) enum Side {
-    Bought,
-    Written,
-}
 
 // The lots of an order that opens on a side of an account and a contract; 0 of every other order.
 fn lots_opened(order: &Order, side: Side, account: u8, contract: u32) -> u32
@@ -70,7 +63,26 @@ fn working_lots(rows: &[Row<Order>], side: Side, account: u8, contract: u32) -> 
 }
 
 impl Book {
-    // The contract of an order, once account, contract, lots and limit are found good.
+    // The contract of an order, once it is listed, and lots and limit are found good.
+    pub(crate) fn check_contract(
+        &self,
+        contract: u32,
+        lots: u32,
+        limit: u64,
+    ) -> Result<Listed, Refusal>
+        ensures tests { Passes (leg_terms_tests (tables_of self.now) contract lots limit) result }
+        ensures found { IfOk result (λ f. Found (contracts_of (tables_of self.now)) contract f) }
+        ensures ranges { IfOk result (λ f. (1 ≤ lots) × (lots ≤ 1000) × (1 ≤ limit) × (limit ≤ 10 ^ 7)) }
+    {
+        let Some(listed) = self.tables.listing.find(contract) else {
+            return Err(Refusal::NotListed);
+        };
+        check_lots(lots)?;
+        check_price(limit)?;
+        Ok(listed)
+    }
+
+    // The contract of an order of an account, once the account too is found good.
     fn check_terms(
         &self,
         account: u8,
@@ -83,27 +95,18 @@ impl Book {
         ensures ranges { IfOk result (λ f. (1 ≤ account) × (account ≤ 8) × (1 ≤ lots) × (lots ≤ 1000) × (1 ≤ limit) × (limit ≤ 10 ^ 7)) }
     {
         check_account(account)?;
-        let Some(listed) = self.tables.listing.find(contract) else {
-            return Err(Refusal::NotListed);
-        };
-        check_lots(lots)?;
-        check_price(limit)?;
-        Ok(listed)
+        self.check_contract(contract, lots, limit)
     }
 
     // Whether lots may be opened beside those owned on the side and those working to open there.
-    fn check_room(
-        &self,
-        side: Side,
-        owned: u32,
-        account: u8,
-        contract: u32,
-        lots: u32,
-    ) -> Result<(), Refusal>
-        ensures { Passes (too_many owned (working_sum (tables_of self.now).orders (opens side account contract)) lots ∷ []) result }
+    fn check_room(&self, side: Side, account: u8, contract: u32, lots: u32) -> Result<(), Refusal>
+        requires account { (1 ≤ account) × (account ≤ 8) }
+        requires contract { IsListed (contracts_of (tables_of self.now)) contract }
+        ensures { Passes (too_many (owned_on side (position_of (tables_of self.now) account contract)) (working_sum (tables_of self.now).orders (opens side account contract)) lots ∷ []) result }
     {
+        let position = self.tables.positions[self.row_of(account, contract)];
         let working = working_lots(&self.tables.orders, side, account, contract);
-        if owned as u64 + working + lots as u64 > MOST_LOTS {
+        if owned(&position, side) as u64 + working + lots as u64 > MOST_LOTS {
             return Err(Refusal::PositionLimit);
         }
         Ok(())
@@ -141,19 +144,16 @@ impl Book {
         ensures law { KeptBy (meaning S.LegScale.leg_of S.CombinationScale.pair_of scale.now) (tables_of self.old) (SellOpenCall account contract lots limit) result (tables_of self.new) }
     {
         let listed = self.check_terms(account, contract, lots, limit)?;
-        let owned = self.tables.positions[position_row(account, listed.place)].written;
-        self.check_room(Side::Written, owned, account, contract, lots)?;
+        self.check_room(Side::Written, account, contract, lots)?;
         let reserve = lots as u64 * scale.leg(&listed.contract);
         let kind = OrderKind::SellOpen { contract };
-        self.enter(
-            Order {
-                account,
-                kind,
-                lots,
-                limit,
-            },
-            reserve,
-        )
+        let order = Order {
+            account,
+            kind,
+            lots,
+            limit,
+        };
+        self.enter(order, reserve)
     }
 
     // Enters an order to buy lots.
@@ -170,19 +170,16 @@ impl Book {
         ensures law { KeptBy (meaning S.LegScale.leg_of S.CombinationScale.pair_of scale.now) (tables_of self.old) (BuyOpenCall account contract lots limit) result (tables_of self.new) }
     {
         let listed = self.check_terms(account, contract, lots, limit)?;
-        let owned = self.tables.positions[position_row(account, listed.place)].bought;
-        self.check_room(Side::Bought, owned, account, contract, lots)?;
+        self.check_room(Side::Bought, account, contract, lots)?;
         let reserve = premium(lots, limit, &listed.contract);
         let kind = OrderKind::BuyOpen { contract };
-        self.enter(
-            Order {
-                account,
-                kind,
-                lots,
-                limit,
-            },
-            reserve,
-        )
+        let order = Order {
+            account,
+            kind,
+            lots,
+            limit,
+        };
+        self.enter(order, reserve)
     }
 
     // Enters an order to buy written lots back, and locks them.
@@ -199,25 +196,17 @@ impl Book {
         ensures law { KeptBy (meaning S.LegScale.leg_of S.CombinationScale.pair_of scale.now) (tables_of self.old) (BuyCloseCall account contract lots limit) result (tables_of self.new) }
     {
         let listed = self.check_terms(account, contract, lots, limit)?;
-        let row = position_row(account, listed.place);
-        let position = self.tables.positions[row];
-        check_free(position.written, position.locked_written, lots)?;
-        let locked = Position {
-            locked_written: position.locked_written + lots,
-            ..position
-        };
+        self.check_free_lots(Side::Written, account, contract, lots)?;
         let reserve = premium(lots, limit, &listed.contract);
         let kind = OrderKind::BuyClose { contract };
-        let answer = self.enter(
-            Order {
-                account,
-                kind,
-                lots,
-                limit,
-            },
-            reserve,
-        )?;
-        self.tables.positions[row] = locked;
+        let order = Order {
+            account,
+            kind,
+            lots,
+            limit,
+        };
+        let answer = self.enter(order, reserve)?;
+        self.lock_lots(Side::Written, account, contract, lots);
         Ok(answer)
     }
 
@@ -234,25 +223,17 @@ impl Book {
         ensures answer { SellCloseRule (meaning S.LegScale.leg_of S.CombinationScale.pair_of scale.now) (tables_of self.old) account contract lots limit result (tables_of self.new) }
         ensures law { KeptBy (meaning S.LegScale.leg_of S.CombinationScale.pair_of scale.now) (tables_of self.old) (SellCloseCall account contract lots limit) result (tables_of self.new) }
     {
-        let listed = self.check_terms(account, contract, lots, limit)?;
-        let row = position_row(account, listed.place);
-        let position = self.tables.positions[row];
-        check_free(position.bought, position.locked_bought, lots)?;
-        let locked = Position {
-            locked_bought: position.locked_bought + lots,
-            ..position
-        };
+        self.check_terms(account, contract, lots, limit)?;
+        self.check_free_lots(Side::Bought, account, contract, lots)?;
         let kind = OrderKind::SellClose { contract };
-        let answer = self.enter(
-            Order {
-                account,
-                kind,
-                lots,
-                limit,
-            },
-            0,
-        )?;
-        self.tables.positions[row] = locked;
+        let order = Order {
+            account,
+            kind,
+            lots,
+            limit,
+        };
+        let answer = self.enter(order, 0)?;
+        self.lock_lots(Side::Bought, account, contract, lots);
         Ok(answer)
     }
 }

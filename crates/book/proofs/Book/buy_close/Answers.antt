@@ -1,57 +1,63 @@
-use Rattle.std.proofs.Common.{◌≡◌, ◌-◌, ◌*◌, ltb, [], ◌∷◌, get_or, None, Ok, Err, ap, ◌∙◌, subst}
-use Rattle.std.proofs.lemmas.Result.{err_from_is_err_and}
-use Rattle.margin.specs.ByCode.{by_code}
+use Rattle.std.proofs.Common.{Ok, refl}
 use Rattle.margin.specs.Meaning.{Meaning, meaning}
 use Rattle.ledger.specs.declared.call.Call.TheVariants.{BuyClose}
 use Rattle.ledger.specs.declared.order.Order.{Order}
 use Rattle.ledger.specs.declared.order.OrderKind.TheVariants.{BuyClose as BuyCloseKind}
-use Rattle.ledger.specs.declared.tables.Position.{Position}
-use Rattle.ledger.specs.ByCode.{unit_of}
-use Rattle.ledger.specs.Law.{contracts_of, position_of, position_row, place, none}
-use Rattle.ledger.specs.Moves.{position_to, locking_written}
-use Rattle.ledger.specs.Tests.{first_met, ByTests}
-use Rattle.ledger.specs.OrderRules.{enter_tests, OrderTaken, BuyCloseRule}
-use Rattle.ledger.proofs.Running.{calls_keep}
-use Rattle.book.proofs.Ordering.{entered, position_is, unit_is, moved_after}
+use Rattle.ledger.specs.Moves.{locking_written}
+use Rattle.book.proofs.Answering.{answered, passed_on}
+use Rattle.book.proofs.Lawful.{funds_fit}
+use Rattle.book.proofs.Ordering.{buy_close, not_entered, locked, lockable, unit_amount}
 use Rattle.book.proofs.Book.buy_close.Goals as goal
 
-pub returns : goal.returns
-returns g c =
-    let b = c.args.self.now.tables in
-    let account = c.args.account in
-    let code = c.args.contract in
-    let lots = c.args.lots in
-    let limit = c.args.limit in
+pub check_free_lots-requires : goal.check_free_lots-requires
+check_free_lots-requires g c = let h = c.in_ok-listed.ensures in record { account = (h.ranges.0, h.ranges.1); contract = (c.in_ok-listed.listed.contract, h.found.contract); lots = h.ranges.2 }
+
+pub premium-reserve-requires : goal.premium-reserve-requires
+premium-reserve-requires g c = let h = c.in_ok-listed.ensures in record { lots = h.ranges.3; price = h.ranges.5 }
+
+pub enter-requires : goal.enter-requires
+enter-requires g c =
     let m : Meaning = meaning g.S.LegScale.leg_of g.S.CombinationScale.pair_of c.args.scale.now in
-    let found = c.in_ok-listed.ensures.found in
-    let listed = c.in_ok-listed.listed in
-    let order : Order = record { account = account; kind = BuyCloseKind code; lots = lots; limit = limit } in
-    let row_is : c.position_row-row.result ≡ position_row b account code = c.position_row-row.ensures.is ∙ ap (place account) found.place in
-    let here = position_is b code listed found account c.position_row-row.result c.position_row-row.ensures.is in
-    let free = subst (λ (p : Position). first_met ((18, ltb (p.written - p.locked_written) lots) ∷ []) ≡ None) here c.in_ok-check_free.ensures in
-    let terms = c.in_ok-listed.ensures.tests in
-    let taken : ByTests (enter_tests b (lots * (limit * unit_of (by_code (contracts_of b) code)))) b (Ok c.in_ok-answer.answer) c.enter.new.self.tables (OrderTaken order (lots * (limit * unit_of (by_code (contracts_of b) code))) b) = (subst (λ x. ByTests (enter_tests b (lots * (limit * x))) b (Ok c.in_ok-answer.answer) c.enter.new.self.tables (OrderTaken order (lots * (limit * x)) b)) (unit_is b code listed found) (subst (λ x. ByTests (enter_tests b x) b (Ok c.in_ok-answer.answer) c.enter.new.self.tables (OrderTaken order x b)) c.premium-reserve.ensures.reserve c.in_ok-answer.ensures)) in
-    let locked = moved_after b c.enter.new.self.tables account code c.position_row-row.result _ (locking_written lots (position_of b account code)) order (lots * (limit * unit_of (by_code (contracts_of b) code))) c.in_ok-answer.answer row_is (ap (locking_written lots) here) taken.1 in
-    let after = position_to c.position_row-row.result (locking_written lots (get_or b.positions c.position_row-row.result none)) c.enter.new.self.tables in
-    let a : BuyCloseRule m b account code lots limit (Ok c.in_ok-answer.answer) after = entered b account code lots limit (18, ltb ((position_of b account code).written - (position_of b account code).locked_written) lots) (lots * (limit * unit_of (by_code (contracts_of b) code))) (Ok c.in_ok-answer.answer) after (OrderTaken order (lots * (limit * unit_of (by_code (contracts_of b) code))) (position_to (position_row b account code) (locking_written lots (position_of b account code)) b)) terms free (taken.0, locked) in
-    record { answer = a; law = calls_keep m b (BuyClose account code lots limit) (Ok c.in_ok-answer.answer) after a }
+    let k = c.requires.its_scale in
+    record { funds = funds_fit m c.args.self.now.tables k.0 k.1 }
 
 pub returns-in_err-answer : goal.returns-in_err-answer
 returns-in_err-answer g c =
     let b = c.args.self.now.tables in
-    let account = c.args.account in
+    let a = c.args.account in
     let code = c.args.contract in
     let lots = c.args.lots in
     let limit = c.args.limit in
     let m : Meaning = meaning g.S.LegScale.leg_of g.S.CombinationScale.pair_of c.args.scale.now in
-    let found = c.in_ok-listed.ensures.found in
-    let listed = c.in_ok-listed.listed in
-    let order : Order = record { account = account; kind = BuyCloseKind code; lots = lots; limit = limit } in
-    let row_is : c.position_row-row.result ≡ position_row b account code = c.position_row-row.ensures.is ∙ ap (place account) found.place in
-    let here = position_is b code listed found account c.position_row-row.result c.position_row-row.ensures.is in
-    let free = subst (λ (p : Position). first_met ((18, ltb (p.written - p.locked_written) lots) ∷ []) ≡ None) here c.in_ok-check_free.ensures in
-    let terms = c.in_ok-listed.ensures.tests in
-    let refused : ByTests (enter_tests b (lots * (limit * unit_of (by_code (contracts_of b) code)))) b (Err c.in_err-answer.field-0.0) c.enter.new.self.tables (OrderTaken order (lots * (limit * unit_of (by_code (contracts_of b) code))) b) = (subst (λ x. ByTests (enter_tests b (lots * (limit * x))) b (Err c.in_err-answer.field-0.0) c.enter.new.self.tables (OrderTaken order (lots * (limit * x)) b)) (unit_is b code listed found) (subst (λ x. ByTests (enter_tests b x) b (Err c.in_err-answer.field-0.0) c.enter.new.self.tables (OrderTaken order x b)) c.premium-reserve.ensures.reserve c.in_err-answer.ensures)) in
-    let a : BuyCloseRule m b account code lots limit (Err c.in_err-answer.field-0.0) c.enter.new.self.tables = entered b account code lots limit (18, ltb ((position_of b account code).written - (position_of b account code).locked_written) lots) (lots * (limit * unit_of (by_code (contracts_of b) code))) (Err c.in_err-answer.field-0.0) c.enter.new.self.tables (OrderTaken order (lots * (limit * unit_of (by_code (contracts_of b) code))) (position_to (position_row b account code) (locking_written lots (position_of b account code)) b)) terms free refused in
-    let p = err_from_is_err_and c.from_residual-in_err-answer.result c.from_residual-in_err-answer.ensures.1 in
-    rw (p.1, p.2) (record { answer = a; law = calls_keep m b (BuyClose account code lots limit) (Err c.in_err-answer.field-0.0) c.enter.new.self.tables a })
+    let h = c.in_ok-listed.ensures in
+    let e = c.in_err-answer.field-0.0 in
+    let after = c.enter.new.self.tables in
+    passed_on m b (BuyClose a code lots limit) c.from_residual-in_err-answer.result e after c.from_residual-in_err-answer.ensures.1
+    (not_entered b a code lots limit (buy_close m b a code lots limit) h.tests c.in_ok-check_free_lots.ensures c.premium-reserve.result (unit_amount b code lots c.in_ok-listed.listed h.found limit c.premium-reserve.result c.premium-reserve.ensures.reserve) e after c.in_err-answer.ensures)
+
+pub lock_lots-requires : goal.lock_lots-requires
+lock_lots-requires g c =
+    let b = c.args.self.now.tables in
+    let a = c.args.account in
+    let code = c.args.contract in
+    let lots = c.args.lots in
+    let limit = c.args.limit in
+    let m : Meaning = meaning g.S.LegScale.leg_of g.S.CombinationScale.pair_of c.args.scale.now in
+    let h = c.in_ok-listed.ensures in
+    let order : Order = record { account = a; kind = BuyCloseKind code; lots = lots; limit = limit } in
+    let l = lockable m b c.requires.its_scale a code h.ranges.0 h.ranges.1 c.in_ok-listed.listed h.found order c.premium-reserve.result c.in_ok-answer.answer c.enter.new.self.tables c.in_ok-answer.ensures.1 in
+    record { account = (h.ranges.0, h.ranges.1); contract = l.contract; few = (h.ranges.3, l.few.written) }
+
+pub returns : goal.returns
+returns g c =
+    let b = c.args.self.now.tables in
+    let a = c.args.account in
+    let code = c.args.contract in
+    let lots = c.args.lots in
+    let limit = c.args.limit in
+    let m : Meaning = meaning g.S.LegScale.leg_of g.S.CombinationScale.pair_of c.args.scale.now in
+    let h = c.in_ok-listed.ensures in
+    let x = c.in_ok-answer.answer in
+    let after = c.lock_lots.new.self.tables in
+    answered m b (BuyClose a code lots limit) (Ok x) after
+    (locked b a code lots limit (buy_close m b a code lots limit) h.tests c.in_ok-check_free_lots.ensures c.premium-reserve.result (unit_amount b code lots c.in_ok-listed.listed h.found limit c.premium-reserve.result c.premium-reserve.ensures.reserve) (locking_written lots) refl x c.enter.new.self.tables after c.in_ok-answer.ensures c.lock_lots.ensures)

@@ -7,8 +7,8 @@ use Rattle.ledger.specs.declared.tables.Tables.{Tables}
 use Rattle.ledger.specs.FillRules.{fill_funds, freed, reserve_per_lot, CancelRule}
 use Rattle.ledger.specs.Moves.{funds_to, orders_to}
 use Rattle.ledger.specs.Tests.{Answer, first_met, is_none, Standing, answers}
-use Rattle.ledger.proofs.Running.{calls_keep}
 use Rattle.book.specs.Facts.{FundsWithin}
+use Rattle.book.proofs.Answering.{answered}
 use Rattle.book.proofs.Lawful.{all_fitted, order_sound, funds_within}
 use Rattle.book.proofs.Ending.{funds_stay, cancelled}
 use Rattle.book.proofs.Book.cancel.Goals as goal
@@ -41,7 +41,7 @@ settle-requires g c =
     let b = c.args.self.now.tables in
     let k = c.requires.its_scale in
     record {
-      funds = subst FundsWithin (sym (funds_stay b c.remove.new.rows c.free.new.self.tables _ c.free.ensures)) (funds_within m b k.0 k.1);
+      funds = subst FundsWithin (sym (funds_stay b c.remove.new.rows c.free.new.self.tables c.in-Some.entry c.free.ensures)) (funds_within m b k.0 k.1);
       reserve = omega (arith, c.times-reserve.ensures.most);
       received = omega arith;
       back = omega arith;
@@ -60,4 +60,4 @@ returns g c =
     let is : after ≡ to entry = cancelled b c.remove.new.rows m n c.times-reserve.result entry c.free.new.self.tables after c.remove.ensures.leaves c.free.ensures c.settle.ensures (c.times-reserve.ensures.is ∙ ap (λ x. entry.lots * x) c.order_reserve.ensures.is) in
     let P : Option Order → Type 0 = λ o. (first_met ((16, is_none o) ∷ []) ≡ None) × Standing o (λ x. answers 0 (to x) r after) in
     let a : CancelRule m b n r after = subst P c.in-Some.ensures (refl, (is, ap (λ (t : Tables). Ok (0, t.funds.balance)) is)) in
-    record { answer = a; law = calls_keep m b (Cancel n) r after a }
+    answered m b (Cancel n) r after a

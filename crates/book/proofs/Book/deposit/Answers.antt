@@ -5,7 +5,7 @@ use Rattle.ledger.specs.declared.call.Call.TheVariants.{Deposit}
 use Rattle.ledger.specs.Tests.{Answer}
 use Rattle.ledger.specs.CashRules.{DepositRule, deposit_tests, deposited}
 use Rattle.ledger.proofs.Tests.{all_unmet, inside}
-use Rattle.ledger.proofs.Running.{calls_keep}
+use Rattle.book.proofs.Answering.{answered}
 use Rattle.book.proofs.Book.deposit.Goals as goal
 
 pub returns : goal.returns
@@ -15,4 +15,4 @@ returns g c =
     let m : Meaning = meaning g.S.LegScale.leg_of g.S.CombinationScale.pair_of c.args.scale.now in
     let r : Answer = Ok (0, b.funds.balance + amount) in
     let a : DepositRule b amount r (deposited amount b) = (all_unmet (deposit_tests b amount) (inside 1 (10 ^ 16) amount (omega arith) (omega arith), (le-ltb _ _ (omega arith), tt)), (refl, refl)) in
-    record { answer = a; law = calls_keep m b (Deposit amount) r (deposited amount b) a }
+    answered m b (Deposit amount) r (deposited amount b) a

@@ -1,5 +1,4 @@
 use Rattle.std.proofs.Common.{◌≡◌, ◌≤◌, [], ◌∷◌, Some, None, Ok, Err, Option, sym, refl, ap, ◌∙◌, subst}
-use Rattle.std.proofs.lemmas.Result.{err_from_is_err_and}
 use Rattle.register.specs.Rows.{lookup}
 use Rattle.margin.specs.Meaning.{Meaning, meaning}
 use Rattle.ledger.specs.declared.call.Call.TheVariants.{Fill}
@@ -13,9 +12,9 @@ use Rattle.ledger.specs.Moves.{orders_to, order_rest}
 use Rattle.ledger.specs.Refusals.{number_of}
 use Rattle.ledger.specs.Runs.{Listed}
 use Rattle.ledger.specs.Tests.{Answer, first_met, Standing, answers, bad_lots, bad_price}
-use Rattle.ledger.proofs.Running.{calls_keep}
 use Rattle.ledger.proofs.Tests.{unmet, within}
 use Rattle.book.specs.Facts.{AllSound, FundsWithin}
+use Rattle.book.proofs.Answering.{answered, passed_on}
 use Rattle.book.proofs.Lawful.{combination_sound, order_sound, funds_within, lots_within}
 use Rattle.book.proofs.Filling.{past_terms, no_lots, no_price, none_stands, traded_as}
 use Rattle.book.proofs.Book.fill.Goals as goal
@@ -60,7 +59,7 @@ returns-in_default g c =
     let price = c.args.price in
     let tests = none_stands m b lots price c.in_ok-check_lots.ensures c.in_ok-check_price.ensures in
     let a : FillRule m b n lots price (Err NotStanding) b = (subst (λ o. first_met (fill_tests m b o lots price) ≡ Some 16) c.in_default.ensures tests, refl) in
-    record { answer = a; law = calls_keep m b (Fill n lots price) (Err NotStanding) b a }
+    answered m b (Fill n lots price) (Err NotStanding) b a
 
 pub returns-in_err-check_lots : goal.returns-in_err-check_lots
 returns-in_err-check_lots g c =
@@ -71,8 +70,7 @@ returns-in_err-check_lots g c =
     let price = c.args.price in
     let e = c.in_err-check_lots.field-0.0 in
     let a : FillRule m b n lots price (Err e) b = (no_lots m b lots price (lookup b.orders n) (number_of e) c.in_err-check_lots.ensures, refl) in
-    let p = err_from_is_err_and c.from_residual.result c.from_residual.ensures.1 in
-    rw (p.1, p.2) (record { answer = a; law = calls_keep m b (Fill n lots price) (Err e) b a })
+    passed_on m b (Fill n lots price) c.from_residual.result e b c.from_residual.ensures.1 a
 
 pub returns-in_err-check_price : goal.returns-in_err-check_price
 returns-in_err-check_price g c =
@@ -83,8 +81,7 @@ returns-in_err-check_price g c =
     let price = c.args.price in
     let e = c.in_err-check_price.field-0.0 in
     let a : FillRule m b n lots price (Err e) b = (no_price m b lots price (lookup b.orders n) (number_of e) c.in_ok-check_lots.ensures c.in_err-check_price.ensures, refl) in
-    let p = err_from_is_err_and c.from_residual-in_err-check_price.result c.from_residual-in_err-check_price.ensures.1 in
-    rw (p.1, p.2) (record { answer = a; law = calls_keep m b (Fill n lots price) (Err e) b a })
+    passed_on m b (Fill n lots price) c.from_residual-in_err-check_price.result e b c.from_residual-in_err-check_price.ensures.1 a
 
 pub returns-in_err-check_fill : goal.returns-in_err-check_fill
 returns-in_err-check_fill g c =
@@ -95,8 +92,7 @@ returns-in_err-check_fill g c =
     let price = c.args.price in
     let e = c.in_err-check_fill.field-0.0 in
     let a : FillRule m b n lots price (Err e) b = (subst (λ o. first_met (fill_tests m b o lots price) ≡ Some (number_of e)) c.in-Some.ensures (past_terms m b lots price c.in-Some.entry c.in_ok-check_lots.ensures c.in_ok-check_price.ensures ∙ c.in_err-check_fill.ensures), refl) in
-    let p = err_from_is_err_and c.from_residual-in_err-check_fill.result c.from_residual-in_err-check_fill.ensures.1 in
-    rw (p.1, p.2) (record { answer = a; law = calls_keep m b (Fill n lots price) (Err e) b a })
+    passed_on m b (Fill n lots price) c.from_residual-in_err-check_fill.result e b c.from_residual-in_err-check_fill.ensures.1 a
 
 pub returns : goal.returns
 returns g c =
@@ -114,4 +110,4 @@ returns g c =
     let tests = past_terms m b lots price entry c.in_ok-check_lots.ensures c.in_ok-check_price.ensures ∙ c.in_ok-check_fill.ensures in
     let P : Option Order → Type 0 = λ o. (first_met (fill_tests m b o lots price) ≡ None) × Standing o (λ x. answers 0 (to x) r after) in
     let a : FillRule m b n lots price r after = subst P c.in-Some.ensures (tests, (is, ap (λ (t : Tables). Ok (0, t.funds.balance)) is)) in
-    record { answer = a; law = calls_keep m b (Fill n lots price) r after a }
+    answered m b (Fill n lots price) r after a

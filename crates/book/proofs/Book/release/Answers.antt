@@ -1,5 +1,4 @@
 use Rattle.std.proofs.Common.{◌≡◌, ◌*◌, [], ◌∷◌, Some, None, Ok, Err, Option, sym, refl, ap, ◌∙◌, subst, arith}
-use Rattle.std.proofs.lemmas.Result.{err_from_is_err_and}
 use Rattle.register.specs.Rows.{lookup}
 use Rattle.margin.specs.Meaning.{Meaning, meaning}
 use Rattle.margin.specs.Bounds.{legs_sum_le}
@@ -12,8 +11,8 @@ use Rattle.ledger.specs.Law.{contracts_of}
 use Rattle.ledger.specs.Refusals.{number_of}
 use Rattle.ledger.specs.Runs.{Listed}
 use Rattle.ledger.specs.Tests.{Answer, first_met, Standing, answers, bad_lots}
-use Rattle.ledger.proofs.Running.{calls_keep}
 use Rattle.ledger.proofs.Tests.{unmet, within}
+use Rattle.book.proofs.Answering.{answered, passed_on}
 use Rattle.book.proofs.Lawful.{combination_sound, funds_within}
 use Rattle.book.proofs.Pricing.{pair_is, legs_are}
 use Rattle.book.proofs.Releasing.{no_lots, none_stands, too_few, past_lots, released_as}
@@ -64,8 +63,8 @@ unlock_first-requires g c =
     let contracts = ap contracts_of c.take_off_combination.ensures ∙ ap contracts_of c.regroup.ensures in
     record { account = s.account; contract = subst (λ cs. Listed cs entry.first) (sym contracts) (s.fitted.first, s.fitted.first_listed) }
 
-pub unlock_written-requires : goal.unlock_written-requires
-unlock_written-requires g c =
+pub unlock_lots-requires : goal.unlock_lots-requires
+unlock_lots-requires g c =
     let m : Meaning = meaning g.S.LegScale.leg_of g.S.CombinationScale.pair_of c.args.scale.now in
     let b = c.args.self.now.tables in
     let n = c.args.combination in
@@ -83,7 +82,7 @@ returns-in_default g c =
     let n = c.args.combination in
     let lots = c.args.lots in
     let a : ReleaseRule m b n lots (Err NotStanding) b = (subst (λ o. first_met (release_tests m b o lots) ≡ Some 16) c.in_default.ensures (none_stands m b lots c.in_ok-check_lots.ensures), refl) in
-    record { answer = a; law = calls_keep m b (Release n lots) (Err NotStanding) b a }
+    answered m b (Release n lots) (Err NotStanding) b a
 
 pub returns-in_err-check_lots : goal.returns-in_err-check_lots
 returns-in_err-check_lots g c =
@@ -93,8 +92,7 @@ returns-in_err-check_lots g c =
     let lots = c.args.lots in
     let e = c.in_err-check_lots.field-0.0 in
     let a : ReleaseRule m b n lots (Err e) b = (no_lots m b lots (lookup b.combinations n) (number_of e) c.in_err-check_lots.ensures, refl) in
-    let p = err_from_is_err_and c.from_residual.result c.from_residual.ensures.1 in
-    rw (p.1, p.2) (record { answer = a; law = calls_keep m b (Release n lots) (Err e) b a })
+    passed_on m b (Release n lots) c.from_residual.result e b c.from_residual.ensures.1 a
 
 pub returns-in_err-check_free : goal.returns-in_err-check_free
 returns-in_err-check_free g c =
@@ -105,8 +103,7 @@ returns-in_err-check_free g c =
     let entry = c.in-Some.entry in
     let e = c.in_err-check_free.field-0.0 in
     let a : ReleaseRule m b n lots (Err e) b = (subst (λ o. first_met (release_tests m b o lots) ≡ Some (number_of e)) c.in-Some.ensures (too_few m b lots c.in_ok-check_lots.ensures entry (number_of e) c.in_err-check_free.ensures), refl) in
-    let p = err_from_is_err_and c.from_residual-in_err-check_free.result c.from_residual-in_err-check_free.ensures.1 in
-    rw (p.1, p.2) (record { answer = a; law = calls_keep m b (Release n lots) (Err e) b a })
+    passed_on m b (Release n lots) c.from_residual-in_err-check_free.result e b c.from_residual-in_err-check_free.ensures.1 a
 
 pub returns-in_err-check_balance : goal.returns-in_err-check_balance
 returns-in_err-check_balance g c =
@@ -119,8 +116,7 @@ returns-in_err-check_balance g c =
     let taken = c.times-taken.ensures.is ∙ ap (λ x. lots * x) (legs_are m (contracts_of b) entry c.fitted_pair-pair.result c.fitted_pair-pair.ensures c.legs_sum.result c.legs_sum.ensures) in
     let e = c.in_err-check_balance.field-0.0 in
     let a : ReleaseRule m b n lots (Err e) b = (subst (λ o. first_met (release_tests m b o lots) ≡ Some (number_of e)) c.in-Some.ensures (past_lots m b lots c.in_ok-check_lots.ensures entry c.times-back.result c.times-taken.result back taken c.in_ok-check_free.ensures ∙ c.in_err-check_balance.ensures), refl) in
-    let p = err_from_is_err_and c.from_residual-in_err-check_balance.result c.from_residual-in_err-check_balance.ensures.1 in
-    rw (p.1, p.2) (record { answer = a; law = calls_keep m b (Release n lots) (Err e) b a })
+    passed_on m b (Release n lots) c.from_residual-in_err-check_balance.result e b c.from_residual-in_err-check_balance.ensures.1 a
 
 pub returns : goal.returns
 returns g c =
@@ -131,10 +127,10 @@ returns g c =
     let entry = c.in-Some.entry in
     let back = c.times-back.ensures.is ∙ ap (λ x. lots * x) (pair_is m (contracts_of b) entry c.fitted_pair-pair.result c.fitted_pair-pair.ensures c.pair.result c.pair.ensures) in
     let taken = c.times-taken.ensures.is ∙ ap (λ x. lots * x) (legs_are m (contracts_of b) entry c.fitted_pair-pair.result c.fitted_pair-pair.ensures c.legs_sum.result c.legs_sum.ensures) in
-    let after = c.unlock_written.new.self.tables in
+    let after = c.unlock_lots.new.self.tables in
     let r : Answer = Ok (0, after.funds.balance) in
-    let is : after ≡ released m b n lots entry = released_as m b lots c.in_ok-check_lots.ensures entry n c.times-back.result c.times-taken.result c.regroup.new.self.tables c.take_off_combination.new.self.tables c.unlock_first.new.self.tables after back taken c.regroup.ensures c.take_off_combination.ensures c.unlock_first.ensures c.unlock_written.ensures in
+    let is : after ≡ released m b n lots entry = released_as m b lots c.in_ok-check_lots.ensures entry n c.times-back.result c.times-taken.result c.regroup.new.self.tables c.take_off_combination.new.self.tables c.unlock_first.new.self.tables after back taken c.regroup.ensures c.take_off_combination.ensures c.unlock_first.ensures c.unlock_lots.ensures in
     let tests = past_lots m b lots c.in_ok-check_lots.ensures entry c.times-back.result c.times-taken.result back taken c.in_ok-check_free.ensures ∙ c.in_ok-check_balance.ensures in
     let P : Option Combination → Type 0 = λ o. (first_met (release_tests m b o lots) ≡ None) × Standing o (λ x. answers 0 (released m b n lots x) r after) in
     let a : ReleaseRule m b n lots r after = subst P c.in-Some.ensures (tests, (is, ap (λ (t : Tables). Ok (0, t.funds.balance)) is)) in
-    record { answer = a; law = calls_keep m b (Release n lots) r after a }
+    answered m b (Release n lots) r after a

@@ -1,30 +1,29 @@
-use Rattle.std.proofs.Common.{◌≡◌, ◌*◌, [], ◌∷◌, None, subst}
-use Rattle.margin.specs.ByCode.{by_code}
+use Rattle.std.proofs.Common.{◌*◌, refl}
 use Rattle.margin.specs.Meaning.{Meaning, meaning}
 use Rattle.ledger.specs.declared.call.Call.TheVariants.{SellOpen}
-use Rattle.ledger.specs.declared.order.OrderKind.TheVariants.{SellOpen as SellOpenKind}
-use Rattle.ledger.specs.declared.order.Order.{Order}
-use Rattle.ledger.specs.declared.tables.Position.{Position}
-use Rattle.ledger.specs.ByCode.{leg_margin_of}
-use Rattle.ledger.specs.Law.{contracts_of}
-use Rattle.ledger.specs.Tests.{first_met, ByTests}
-use Rattle.ledger.specs.OrderRules.{working_sum, opens_written, too_many, enter_tests, OrderTaken, SellOpenRule}
-use Rattle.ledger.proofs.Running.{calls_keep}
-use Rattle.book.proofs.Ordering.{entered, position_is, leg_is}
+use Rattle.book.proofs.Answering.{answered}
+use Rattle.book.proofs.Lawful.{funds_fit}
+use Rattle.book.proofs.Ordering.{sell_open, entered, leg_amount}
 use Rattle.book.proofs.Book.sell_open.Goals as goal
+
+pub check_room-requires : goal.check_room-requires
+check_room-requires g c = let h = c.in_ok-listed.ensures in record { account = (h.ranges.0, h.ranges.1); contract = (c.in_ok-listed.listed.contract, h.found.contract) }
+
+pub enter-requires : goal.enter-requires
+enter-requires g c =
+    let m : Meaning = meaning g.S.LegScale.leg_of g.S.CombinationScale.pair_of c.args.scale.now in
+    let k = c.requires.its_scale in
+    record { funds = funds_fit m c.args.self.now.tables k.0 k.1 }
 
 pub returns : goal.returns
 returns g c =
     let b = c.args.self.now.tables in
-    let account = c.args.account in
+    let a = c.args.account in
     let code = c.args.contract in
     let lots = c.args.lots in
     let limit = c.args.limit in
     let m : Meaning = meaning g.S.LegScale.leg_of g.S.CombinationScale.pair_of c.args.scale.now in
-    let found = c.in_ok-listed.ensures.found in
-    let listed = c.in_ok-listed.listed in
-    let order : Order = record { account = account; kind = SellOpenKind code; lots = lots; limit = limit } in
-    let room = subst (λ (p : Position). first_met (too_many p.written (working_sum b.orders (λ o. opens_written account code o o.kind)) lots ∷ []) ≡ None) (position_is b code listed found account c.position_row.result c.position_row.ensures.is) c.in_ok-check_room.ensures in
-    let taken = subst (λ x. ByTests (enter_tests b (lots * x)) b c.enter.result c.enter.new.self.tables (OrderTaken order (lots * x) b)) (leg_is b code listed found m c.leg.result c.leg.ensures) c.enter.ensures in
-    let a : SellOpenRule m b account code lots limit c.enter.result c.enter.new.self.tables = entered b account code lots limit _ (lots * leg_margin_of m (by_code (contracts_of b) code)) c.enter.result c.enter.new.self.tables _ c.in_ok-listed.ensures.tests room taken in
-    record { answer = a; law = calls_keep m b (SellOpen account code lots limit) c.enter.result c.enter.new.self.tables a }
+    let h = c.in_ok-listed.ensures in
+    let r = c.enter.result in
+    let after = c.enter.new.self.tables in
+    answered m b (SellOpen a code lots limit) r after (entered b a code lots limit (sell_open m b a code lots limit) h.tests c.in_ok-check_room.ensures (lots * c.leg.result) (leg_amount b code lots c.in_ok-listed.listed h.found m c.leg.result c.leg.ensures) refl r after c.enter.ensures)

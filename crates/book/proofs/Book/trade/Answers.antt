@@ -5,8 +5,8 @@ use Rattle.ledger.specs.Law.{contracts_of, position_of}
 use Rattle.ledger.specs.Runs.{Listed}
 use Rattle.book.proofs.Book.trade.Goals as goal
 
-pub add_written-requires : goal.add_written-requires
-add_written-requires g c =
+pub add_lots-requires : goal.add_lots-requires
+add_lots-requires g c =
     let b = c.args.self.now.tables in
     let a = c.args.order.now.account in
     let listed = subst (λ k. Listed (contracts_of b) (contract_of k)) c.in-SellOpen.is c.requires.contract in
@@ -17,8 +17,8 @@ add_written-requires g c =
       few = (c.requires.lots, subst (λ (t : Tables). (position_of t a c.in-SellOpen.contract).written ≤ 10000) (sym c.settle.ensures) room);
     }
 
-pub add_bought-requires : goal.add_bought-requires
-add_bought-requires g c =
+pub add_lots-requires-in-BuyOpen : goal.add_lots-requires-in-BuyOpen
+add_lots-requires-in-BuyOpen g c =
     let b = c.args.self.now.tables in
     let a = c.args.order.now.account in
     let listed = subst (λ k. Listed (contracts_of b) (contract_of k)) c.in-BuyOpen.is c.requires.contract in
@@ -29,13 +29,13 @@ add_bought-requires g c =
       few = (c.requires.lots, subst (λ (t : Tables). (position_of t a c.in-BuyOpen.contract).bought ≤ 10000) (sym c.settle-in-BuyOpen.ensures) room);
     }
 
-pub close_written-requires : goal.close_written-requires
-close_written-requires g c =
+pub close_lots-requires : goal.close_lots-requires
+close_lots-requires g c =
     let listed = subst (λ k. Listed (contracts_of c.args.self.now.tables) (contract_of k)) c.in-BuyClose.is c.requires.contract in
     record { account = c.requires.account; contract = subst (λ cs. Listed cs c.in-BuyClose.contract) (sym (ap contracts_of c.settle-in-BuyClose.ensures)) listed }
 
-pub close_bought-requires : goal.close_bought-requires
-close_bought-requires g c =
+pub close_lots-requires-in-SellClose : goal.close_lots-requires-in-SellClose
+close_lots-requires-in-SellClose g c =
     let listed = subst (λ k. Listed (contracts_of c.args.self.now.tables) (contract_of k)) c.in-SellClose.is c.requires.contract in
     record { account = c.requires.account; contract = subst (λ cs. Listed cs c.in-SellClose.contract) (sym (ap contracts_of c.settle-in-SellClose.ensures)) listed }
 

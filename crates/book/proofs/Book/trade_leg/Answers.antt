@@ -9,19 +9,19 @@ fitted_pair-pair-requires g c = (c.requires.combinations c.args.number c.in-Some
 pub leg_close_reserve-requires : goal.leg_close_reserve-requires
 leg_close_reserve-requires g c = record { fitted = (c.requires.combinations c.args.number c.in-Some.combination (sym c.in-Some.ensures)).fitted; limit = c.requires.limit }
 
-pub close_written-requires : goal.close_written-requires
-close_written-requires g c =
+pub close_lots-requires : goal.close_lots-requires
+close_lots-requires g c =
     let contracts = ap contracts_of c.take_off_combination.ensures ∙ ap contracts_of c.settle.ensures in
     record { account = c.requires.account; contract = subst (λ cs. Listed cs c.args.leg) (sym contracts) c.requires.contract }
 
 pub unlock_first-requires : goal.unlock_first-requires
 unlock_first-requires g c =
-    let contracts = ap contracts_of c.close_written.ensures ∙ ap contracts_of c.take_off_combination.ensures ∙ ap contracts_of c.settle.ensures in
+    let contracts = ap contracts_of c.close_lots.ensures ∙ ap contracts_of c.take_off_combination.ensures ∙ ap contracts_of c.settle.ensures in
     let s = c.requires.combinations c.args.number c.in-Some.combination (sym c.in-Some.ensures) in
     record { account = s.account; contract = subst (λ cs. Listed cs c.in-Some.combination.first) (sym contracts) (s.fitted.first, s.fitted.first_listed) }
 
-pub unlock_written-requires : goal.unlock_written-requires
-unlock_written-requires g c =
-    let contracts = ap contracts_of c.close_written.ensures ∙ ap contracts_of c.take_off_combination.ensures ∙ ap contracts_of c.settle.ensures in
+pub unlock_lots-requires : goal.unlock_lots-requires
+unlock_lots-requires g c =
+    let contracts = ap contracts_of c.close_lots.ensures ∙ ap contracts_of c.take_off_combination.ensures ∙ ap contracts_of c.settle.ensures in
     let s = c.requires.combinations c.args.number c.in-Some.combination (sym c.in-Some.ensures) in
     record { account = s.account; contract = subst (λ cs. Listed cs c.in-Some.combination.second) (sym contracts) (s.fitted.second, s.fitted.second_listed) }
