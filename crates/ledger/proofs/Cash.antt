@@ -9,7 +9,7 @@ use Rattle.ledger.specs.Moves.{funds_to}
 use Rattle.ledger.specs.Runs.{Law}
 use Rattle.ledger.proofs.Stays.{DepositStays, WithdrawStays}
 use Rattle.ledger.proofs.Tests.{refused_keeps, unmet}
-use Rattle.ledger.proofs.Moved.{lots_alike}
+use Rattle.ledger.proofs.Moved.{all_alike}
 
 -- balance and cash total move together, and nothing else
 abbrev funded : ℕ → ℕ → Ledger → Ledger
@@ -20,7 +20,7 @@ cash_moved : (m : Meaning) (l : Ledger) (b : Tables) (balance cash came went : �
 cash_moved m l b balance cash came went law sum total most = record {
   beside = record {
     cash = total;
-    lots = λ a code c low high is. lots_alike l (funded came went l) a code _ (record { bought = refl; written = refl; claimed_bought = refl; claimed_written = refl }) (law.beside.lots a code c low high is);
+    lots = all_alike l (funded came went l) b law.beside.lots (λ a code. record { bought = refl; written = refl; claimed_bought = refl; claimed_written = refl });
     combinations = law.beside.combinations;
     orders = law.beside.orders;
     next_combination = law.beside.next_combination;

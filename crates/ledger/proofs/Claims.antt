@@ -1,6 +1,6 @@
 -- What a combination claims of its two legs, and of nothing else; and what margin held comes to where its lots come in or go.
 use Rattle.std.proofs.Common.{◌≡◌, ℕ, ◌+◌, ◌-◌, ◌*◌, ◌≤◌, Bool, true, false, cond, ◌&&◌, eqb, List, Some, sym, refl, ap, ◌∙◌, subst, ⊎_elim, arith}
-use Rattle.std.proofs.lemmas.Bool.{cases_eq, cond-true, cond-false, eq-eqb, ne_eqb, and_right}
+use Rattle.std.proofs.lemmas.Bool.{cases_eq, cond-true, cond-false, cond_both, eq-eqb, ne_eqb, and_right}
 use Rattle.margin.specs.ByCode.{by_code}
 use Rattle.margin.specs.declared.contract.Contract.{Contract}
 use Rattle.margin.specs.Strategies.{first_written}
@@ -15,7 +15,7 @@ use Rattle.ledger.specs.Runs.{Rising, Fitted}
 use Rattle.ledger.specs.Amounts.{pair_margin}
 use Rattle.ledger.proofs.Entries.{weighed}
 use Rattle.ledger.proofs.Grid.{legs_moved_twice}
-use Rattle.ledger.proofs.Shares.{when_yes, when_no, times_more}
+use Rattle.ledger.proofs.Shares.{times_both}
 use Rattle.ledger.proofs.Pairings.{pair_lots, legs_apart}
 
 -- the claims of lots of a combination at its account
@@ -38,27 +38,22 @@ bought_is p lots y = cond-true _ _ _ (eq-eqb p.account p.account refl)
 written_nowhere : (p : Pairing) (lots x y : ℕ) → ((x ≡ p.account) × (y ≡ p.first) → ⊥) → ((x ≡ p.account) × (y ≡ p.second) → ⊥) → written_claim x y (pair_lots lots p) ≡ 0
 written_nowhere p lots x y nf ns =
     ⊎_elim
-    (λ e. let one : when (first_written p.strategy && eqb p.first y) lots ≡ 0 = when_no _ lots (and_right _ _ (ne_eqb _ _ (λ v. nf (sym e, sym v)))) in
-    let two : when (eqb p.second y) lots ≡ 0 = when_no _ lots (ne_eqb _ _ (λ v. ns (sym e, sym v))) in
+    (λ e. let one : when (first_written p.strategy && eqb p.first y) lots ≡ 0 = cond-false _ lots 0 (and_right _ _ (ne_eqb _ _ (λ v. nf (sym e, sym v)))) in
+    let two : when (eqb p.second y) lots ≡ 0 = cond-false _ lots 0 (ne_eqb _ _ (λ v. ns (sym e, sym v))) in
     subst (λ z. written_claim z y (pair_lots lots p) ≡ 0) e (omega (arith, written_is p lots y, one, two)))
     (λ ne. cond-false _ _ _ (ne_eqb _ _ ne))
     (cases_eq p.account x)
-
--- of either leg, where no lots are claimed
-flat : (t : Bool) → ◌≡◌ {A = ℕ} (cond t 0 0) 0
-flat true = refl
-flat false = refl
 
 bought_nowhere : (p : Pairing) (lots x y : ℕ) → ((x ≡ p.account) × (y ≡ p.first) → ⊥) → bought_claim x y (pair_lots lots p) ≡ 0
 bought_nowhere p lots x y nf =
     ⊎_elim
     (λ e. subst (λ z. bought_claim z y (pair_lots lots p) ≡ 0) e
-    (bought_is p lots y ∙ ap (λ z. cond (first_written p.strategy) 0 z) (when_no _ lots (ne_eqb _ _ (λ v. nf (sym e, sym v)))) ∙ flat (first_written p.strategy)))
+    (bought_is p lots y ∙ ap (λ z. cond (first_written p.strategy) 0 z) (cond-false _ lots 0 (ne_eqb _ _ (λ v. nf (sym e, sym v)))) ∙ cond_both (first_written p.strategy) 0 0 (λ z. z ≡ 0) (λ _. refl) (λ _. refl)))
     (λ ne. cond-false _ _ _ (ne_eqb _ _ ne))
     (cases_eq p.account x)
 
 first_claim : (t u : Bool) (n : ℕ) → u ≡ true → when (t && u) n ≡ when t n
-first_claim true u n e = when_yes u n e
+first_claim true u n e = cond-true u n 0 e
 first_claim false u n e = refl
 
 pub two_legs : (cs : List Contract) (p : Pairing) (lots : ℕ) → Fitted cs p → TwoLegs p lots
@@ -66,9 +61,9 @@ two_legs cs p lots fitted =
     let differ = legs_apart cs p fitted in
     record {
       apart = differ;
-      written_first = omega (arith, written_is p lots p.first, first_claim (first_written p.strategy) (eqb p.first p.first) lots (eq-eqb p.first p.first refl), when_no (eqb p.second p.first) lots (ne_eqb _ _ (λ e. differ (sym e))));
-      bought_first = bought_is p lots p.first ∙ ap (λ z. cond (first_written p.strategy) 0 z) (when_yes (eqb p.first p.first) lots (eq-eqb p.first p.first refl));
-      written_second = omega (arith, written_is p lots p.second, when_no (first_written p.strategy && eqb p.first p.second) lots (and_right _ _ (ne_eqb _ _ differ)), when_yes (eqb p.second p.second) lots (eq-eqb p.second p.second refl));
+      written_first = omega (arith, written_is p lots p.first, first_claim (first_written p.strategy) (eqb p.first p.first) lots (eq-eqb p.first p.first refl), cond-false (eqb p.second p.first) lots 0 (ne_eqb _ _ (λ e. differ (sym e))));
+      bought_first = bought_is p lots p.first ∙ ap (λ z. cond (first_written p.strategy) 0 z) (cond-true (eqb p.first p.first) lots 0 (eq-eqb p.first p.first refl));
+      written_second = omega (arith, written_is p lots p.second, cond-false (first_written p.strategy && eqb p.first p.second) lots 0 (and_right _ _ (ne_eqb _ _ differ)), cond-true (eqb p.second p.second) lots 0 (eq-eqb p.second p.second refl));
       bought_second = bought_nowhere p lots p.account p.second (λ q. differ (sym q.1));
       written_else = written_nowhere p lots;
       bought_else = bought_nowhere p lots;
@@ -107,10 +102,10 @@ held_between m cs l k p lots codes account f same more enough enough₂ pairs =
     let G : ℕ → ℕ → ℕ = λ x y. l.written x y - in_combinations l x y in
     let sums = legs_moved_twice m.leg F G cs 0 a p.first p.second f.first f.second codes f.first_listed f.second_listed two.apart account.0 account.1
     (λ x y nf ns. omega (arith, same x y, more x y, two.written_else x y nf ns)) in
-    let one : m.leg f.first * G a p.first ≡ m.leg f.first * F a p.first + m.leg f.first * when (first_written p.strategy) lots
-    = times_more _ _ _ _ (omega (arith, same a p.first, more a p.first, enough, two.written_first)) in
-    let other : m.leg f.second * G a p.second ≡ m.leg f.second * F a p.second + m.leg f.second * lots
-    = times_more _ _ _ _ (omega (arith, same a p.second, more a p.second, enough₂, two.written_second)) in
+    let one : m.leg f.first * G a p.first + m.leg f.first * 0 ≡ m.leg f.first * F a p.first + m.leg f.first * when (first_written p.strategy) lots
+    = times_both _ 0 _ _ _ (omega (arith, same a p.first, more a p.first, enough, two.written_first)) in
+    let other : m.leg f.second * G a p.second + m.leg f.second * 0 ≡ m.leg f.second * F a p.second + m.leg f.second * lots
+    = times_both _ 0 _ _ _ (omega (arith, same a p.second, more a p.second, enough₂, two.written_second)) in
     let legs : lots * legs_of m p.strategy (by_code cs p.first) (by_code cs p.second) ≡ m.leg f.first * when (first_written p.strategy) lots + m.leg f.second * lots
     = ap (λ z. lots * legs_of m p.strategy z (by_code cs p.second)) f.first_listed ∙ ap (λ z. lots * legs_of m p.strategy (Some f.first) z) f.second_listed
     ∙ legs_weigh (first_written p.strategy) lots (m.leg f.first) (m.leg f.second) in

@@ -1,7 +1,8 @@
 -- Contracts by code, and the position rows by account and code.
-use Rattle.std.proofs.Common.{◌≡◌, ℕ, ◌+◌, ◌<◌, ◌≤◌, true, false, ◌&&◌, eqb, ◌⊎◌, List, [], ◌∷◌, length, Some, Option, sym, ap, ◌∙◌, inl, inr, ⊎_elim, arith}
+use Rattle.std.proofs.Common.{◌≡◌, ℕ, ◌+◌, ◌<◌, ◌≤◌, cond, ◌&&◌, eqb, ◌⊎◌, List, [], ◌∷◌, length, Some, Option, sym, ap, ◌∙◌, subst, inl, inr, ⊎_elim, arith}
 use Rattle.std.proofs.lemmas.List.{get_or-set_same, get_or-set_other}
-use Rattle.std.proofs.lemmas.Bool.{eq-eqb, ne_eqb, cond-true, cond-false, cases_eq, and_from, and_left, and_right}
+use Rattle.std.proofs.lemmas.Bool.{eq-eqb, ne_eqb, cond-true, cond-false, cases_eq}
+use Rattle.std.proofs.lemmas.Bool.Decides.{nat_tests}
 use Rattle.margin.specs.ByCode.{by_code, index}
 use Rattle.margin.specs.declared.contract.Contract.{Contract}
 use Rattle.ledger.specs.declared.tables.Tables.{Tables}
@@ -56,13 +57,22 @@ pub listed_code : (cs : List Contract) (code : ℕ) (c : Contract) → by_code c
 listed_code [] code c p = let z : ◌≡◌ {A = ℕ} 0 1 = cc in absurd (omega arith)
 listed_code (d ∷ cs) code c p = ⊎_elim (λ q. ap (λ (x : Contract). x.code) (sym q.1) ∙ q.0) (λ q. listed_code cs code c q.1) (listed_parts d cs code c p)
 
--- Tests of one account and code ---------------------------------------------------------------
-
-pub both : (a b c d : ℕ) → a ≡ b → c ≡ d → (eqb a b && eqb c d) ≡ true
-both a b c d p q = and_from _ _ (eq-eqb _ _ p) (eq-eqb _ _ q)
-
-pub not_both : (a b c d : ℕ) → ((a ≡ b) × (c ≡ d) → ⊥) → (eqb a b && eqb c d) ≡ false
-not_both a b c d n = ⊎_elim (λ p. and_right _ _ (ne_eqb _ _ (λ q. n (p, q)))) (λ np. and_left _ _ (ne_eqb _ _ np)) (cases_eq a b)
+-- One account and code, and every other -------------------------------------------------------
 
 pub one_or_not : (a b c d : ℕ) → ((a ≡ b) × (c ≡ d)) ⊎ ((a ≡ b) × (c ≡ d) → ⊥)
 one_or_not a b c d = ⊎_elim (λ e. ⊎_elim (λ v. inl (e, v)) (λ nv. inr (λ q. nv q.1)) (cases_eq c d)) (λ ne. inr (λ q. ne q.0)) (cases_eq a b)
+
+-- what holds at one, and at every other, holds at each
+pub at_one : (P : ℕ → ℕ → Type 0) (a c : ℕ) → P a c → ((x y : ℕ) → ((x ≡ a) × (y ≡ c) → ⊥) → P x y) → (x y : ℕ) → P x y
+at_one P a c here else x y = ⊎_elim (λ q. subst (λ z. P z y) (sym q.0) (subst (λ z. P a z) (sym q.1) here)) (else x y) (one_or_not x a y c)
+
+module _ {X : Type 0} (a c : ℕ) (u v : X) where
+  pub one_here : cond (eqb a a && eqb c c) u v ≡ u
+  one_here = grind (arith, nat_tests)
+
+  pub one_else : (x y : ℕ) → ((x ≡ a) × (y ≡ c) → ⊥) → cond (eqb x a && eqb y c) u v ≡ v
+  one_else x y off = grind (arith, nat_tests)
+
+  -- the test as orders have it
+  pub order_else : (x y : ℕ) → ((x ≡ a) × (y ≡ c) → ⊥) → cond (eqb a x && eqb c y) u v ≡ v
+  order_else x y off = grind (arith, nat_tests)

@@ -112,8 +112,8 @@ module _ (m : Meaning) (l : Ledger) (b : Tables) (law : Law m l b) (p : Pairing)
   locked_lots : AllLots l' locked
   locked_lots =
       let q = first_locked (first_written p.strategy) p.lots (position_of b a p.first) in
-      lots_moved_twice l l' b a p.first p.second fitted.first fitted.second (lock_first p.strategy p.lots) (locking_written p.lots) law.sound.count law.sound.position_rows account.0 account.1
-      fitted.first_listed fitted.second_listed (λ e. two.apart (sym e)) law.beside.lots
+      lots_moved_twice l l' b a p.first fitted.first (lock_first p.strategy p.lots) law.sound.count law.sound.position_rows account.0 account.1 fitted.first_listed law.beside.lots
+      p.second fitted.second (locking_written p.lots) fitted.second_listed (λ e. two.apart (sym e))
       (record {
         bought = q.bought ∙ lot.bought;
         written = q.written ∙ lot.written;

@@ -1,5 +1,5 @@
 -- What a fill brings back covers what it pays and takes, at any price within the order's limit.
-use Rattle.std.proofs.Common.{◌≡◌, ℕ, ◌+◌, ◌-◌, ◌*◌, ◌≤◌, Bool, false, cond, ltb, Some, None, Option, mul-le-mul_right, mul-le-mul_left, mul-add, arith}
+use Rattle.std.proofs.Common.{◌≡◌, ℕ, ◌+◌, ◌-◌, ◌*◌, ◌≤◌, false, cond, ltb, Some, None, Option, mul-le-mul_right, mul-le-mul_left, mul-add, arith}
 use Rattle.std.proofs.lemmas.Bool.{le-ltb, ltb-false}
 use Rattle.register.specs.Rows.{lookup}
 use Rattle.ledger.specs.declared.order.Combination.{Combination}
@@ -10,20 +10,10 @@ use Rattle.margin.specs.ByCode.{by_code}
 use Rattle.margin.specs.Meaning.{Meaning}
 use Rattle.ledger.specs.ByCode.{unit_of}
 use Rattle.ledger.specs.Law.{contracts_of}
-use Rattle.ledger.specs.FillRules.{Flow, flow, leg_flow, short_of_funds, other_margin}
+use Rattle.ledger.specs.FillRules.{Flow, flow, leg_flow, other_margin}
 use Rattle.ledger.specs.Content.{sells}
 use Rattle.ledger.specs.Keeps.{FillNeverShort}
 use Rattle.ledger.specs.Amounts.{pair_per_lot}
-
--- the balance after a fill: what is paid and taken is covered by what comes back and is received
-pub funds_sum : (reserve received paid back taken balance held reserved out in' : ℕ) → balance + held + reserved + out ≡ in' → reserve ≤ reserved → back ≤ held + taken → paid + taken ≤ reserve + received + back →
-    (balance + reserve + received + back - paid - taken) + (held + taken - back) + (reserved - reserve) + (out + paid) ≡ in' + received
-funds_sum reserve received paid back taken balance held reserved out in' s r b c = omega arith
-
--- and the cash total with what is received covers what is paid
-pub funds_cash : (reserve received paid back taken balance held reserved cash out in' : ℕ) → cash + out ≡ in' → balance + held + reserved + out ≡ in' → reserve ≤ reserved → back ≤ held + taken → paid + taken ≤ reserve + received + back →
-    (cash + received - paid) + (out + paid) ≡ in' + received
-funds_cash reserve received paid back taken balance held reserved cash out in' t s r b c = omega arith
 
 pub times_within : (lots price limit unit : ℕ) → price ≤ limit → lots * price * unit ≤ lots * (limit * unit)
 times_within lots price limit unit h =
@@ -37,21 +27,23 @@ covers lots price limit unit other pair h =
     let whole : lots * (other + limit * unit) ≤ lots * (((other + limit * unit) - pair) + pair) = mul-le-mul_left lots (omega arith) in
     omega (arith, whole, mul-add lots other (limit * unit), mul-add lots ((other + limit * unit) - pair) pair, times_within lots price limit unit h)
 
+-- what comes back and is received
+abbrev pub Covers : Flow → Type 0
+Covers w = w.paid + w.taken ≤ w.reserve + w.received + w.back
+
 module _ (m : Meaning) (b : Tables) (limit lots price : ℕ) where
-  abbrev short : Flow → Bool
-  short w = short_of_funds w b.funds
+  pub leg_covered : (c : ℕ) (k : Option Combination) → price ≤ limit → Covers (leg_flow m b c limit lots price k)
+  leg_covered c (Some k) cheap = omega (arith, covers lots price limit (unit_of (by_code (contracts_of b) c)) (other_margin m b k c) (pair_per_lot m (contracts_of b) k.strategy k.first k.second) cheap)
+  leg_covered c None cheap = omega arith
 
-  leg_covered : (c : ℕ) (k : Option Combination) → price ≤ limit → short (leg_flow m b c limit lots price k) ≡ false
-  leg_covered c (Some k) cheap =
-      le-ltb _ _ (omega (arith, covers lots price limit (unit_of (by_code (contracts_of b) c)) (other_margin m b k c) (pair_per_lot m (contracts_of b) k.strategy k.first k.second) cheap))
-  leg_covered c None cheap = le-ltb _ _ (omega arith)
-
-  flow_covered : (kind : OrderKind) → cond (sells kind) (ltb price limit) (ltb limit price) ≡ false → short (flow m b kind limit lots price) ≡ false
-  flow_covered (SellOpen c) h = le-ltb _ _ (omega arith)
-  flow_covered (BuyOpen c) h = le-ltb _ _ (omega (arith, times_within lots price limit (unit_of (by_code (contracts_of b) c)) (ltb-false limit price h)))
-  flow_covered (BuyClose c) h = le-ltb _ _ (omega (arith, times_within lots price limit (unit_of (by_code (contracts_of b) c)) (ltb-false limit price h)))
-  flow_covered (SellClose c) h = le-ltb _ _ (omega arith)
+  pub flow_covered : (kind : OrderKind) → cond (sells kind) (ltb price limit) (ltb limit price) ≡ false → Covers (flow m b kind limit lots price)
+  flow_covered (SellOpen c) h = omega arith
+  flow_covered (BuyOpen c) h = omega (arith, times_within lots price limit (unit_of (by_code (contracts_of b) c)) (ltb-false limit price h))
+  flow_covered (BuyClose c) h = omega (arith, times_within lots price limit (unit_of (by_code (contracts_of b) c)) (ltb-false limit price h))
+  flow_covered (SellClose c) h = omega arith
   flow_covered (LegClose n c) h = leg_covered c (lookup b.combinations n) (ltb-false limit price h)
 
 pub fill_never_short : FillNeverShort
-fill_never_short m b o lots price h = flow_covered m b o.limit lots price o.kind h
+fill_never_short m b o lots price h =
+    let covered : Covers (flow m b o.kind o.limit lots price) = flow_covered m b o.limit lots price o.kind h in
+    le-ltb _ _ (omega (arith, covered))

@@ -25,7 +25,7 @@ use Rattle.ledger.specs.Runs.{Law}
 use Rattle.ledger.proofs.Stays.{Stays}
 use Rattle.ledger.proofs.Tests.{refused_keeps, unmet, within, some_of, some_same, stands_as, unmet_at}
 use Rattle.ledger.proofs.Entries.{weighed_cons}
-use Rattle.ledger.proofs.Moved.{lots_alike}
+use Rattle.ledger.proofs.Moved.{all_alike}
 use Rattle.ledger.proofs.Entering.{entered_keeps}
 use Rattle.ledger.proofs.Pairings.{combination_with, row_parts}
 
@@ -61,7 +61,7 @@ module _ (m : Meaning) (b : Tables) (n code lots limit : ℕ) where
         enough = enough;
         number = number;
         rows = law.sound.position_rows;
-        lots = λ x y d low high is. lots_alike l l' x y _ (record { bought = refl; written = refl; claimed_bought = refl; claimed_written = refl }) (law.beside.lots x y d low high is);
+        lots = all_alike l l' b law.beside.lots (λ x y. record { bought = refl; written = refl; claimed_bought = refl; claimed_written = refl });
         combinations = λ k. row_engaged b.combinations n k (engaged l n) (engaged l n + lots) (engaged l' k) p (under l.combinations k) found
             (λ e. ap (under l.combinations) (sym e) ∙ stands) (λ e. here k e) (λ ne. law.beside.combinations k ∙ ap (λ z. combination_under z (under l.combinations k)) (sym (else k ne)));
         apart = apart_changed b.combinations n (combination_with (engaged l n + lots) p) law.sound.combination_rows;

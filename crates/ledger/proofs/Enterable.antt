@@ -18,7 +18,7 @@ use Rattle.ledger.specs.Tests.{Answer, Standing, is_none}
 use Rattle.ledger.specs.FillRules.{fill_tests}
 use Rattle.ledger.specs.CombinationRules.{release_tests, leg_close_tests, combine_tests}
 use Rattle.ledger.specs.Runs.{Law, ByTheRules, Accepted, Enterable, Fillable, LegOf, SoundOrder, SoundCombination}
-use Rattle.ledger.proofs.Codes.{both}
+use Rattle.ledger.proofs.Codes.{one_here}
 use Rattle.ledger.proofs.Entries.{weighed_part}
 use Rattle.ledger.proofs.Tests.{unmet, some_of, met_of, unmet_at}
 use Rattle.ledger.proofs.Pairings.{combination_with, row_parts, leg_parts}
@@ -39,13 +39,13 @@ module _ (m : Meaning) (l : Ledger) (b : Tables) (law : Law m l b) where
         let o : Order = made a (BuyClose c) whole limit in
         let fit : SoundOrder (contracts_of b) l.combinations o = law.sound.orders n o stands in
         let lot : Lots l a c (position_of b a c) = law.beside.lots a c fit.contract.0 fit.account.0 fit.account.1 fit.contract.1 in
-        let here : cond (eqb a a && eqb c c) whole 0 ≡ whole = cond-true _ _ _ (both a a c c refl refl) in
+        let here : cond (eqb a a && eqb c c) whole 0 ≡ whole = one_here a c whole 0 in
         omega (arith, lot.written_free, here, weighed_part (λ z. closes_written a c z z.kind) l.orders n o stands)
     fillable (SellClose c) a whole limit stands within =
         let o : Order = made a (SellClose c) whole limit in
         let fit : SoundOrder (contracts_of b) l.combinations o = law.sound.orders n o stands in
         let lot : Lots l a c (position_of b a c) = law.beside.lots a c fit.contract.0 fit.account.0 fit.account.1 fit.contract.1 in
-        let here : cond (eqb a a && eqb c c) whole 0 ≡ whole = cond-true _ _ _ (both a a c c refl refl) in
+        let here : cond (eqb a a && eqb c c) whole 0 ≡ whole = one_here a c whole 0 in
         omega (arith, lot.bought_free, here, weighed_part (λ z. closes_bought a c z z.kind) l.orders n o stands)
     fillable (LegClose k c) a whole limit stands within =
         let o : Order = made a (LegClose k c) whole limit in

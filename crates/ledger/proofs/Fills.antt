@@ -1,8 +1,9 @@
 -- Fill and cancel keep the law.
-use Rattle.std.proofs.Common.{◌≡◌, ℕ, ◌+◌, ◌*◌, ◌^◌, ◌≤◌, false, cond, ◌&&◌, ltb, List, [], ◌∷◌, Some, None, Ok, Err, Option, sym, refl, ap, ◌∙◌, subst, arith}
-use Rattle.std.proofs.lemmas.Bool.{ltb-false}
+use Rattle.std.proofs.Common.{◌≡◌, ℕ, ◌+◌, ◌-◌, ◌*◌, ◌^◌, ◌≤◌, false, cond, ◌&&◌, eqb, ltb, List, [], ◌∷◌, Some, None, Ok, Err, Option, sym, refl, ap, ◌∙◌, subst, arith}
+use Rattle.std.proofs.lemmas.Bool.{ltb-false, cond-true, cond-false, eq-eqb, ne_eqb}
 use Rattle.register.specs.declared.row.Row.{Row}
-use Rattle.register.specs.Rows.{lookup}
+use Rattle.register.specs.Rows.{lookup, changed}
+use Rattle.register.proofs.After.{apart_changed}
 use Rattle.ledger.specs.declared.order.Order.{Order}
 use Rattle.ledger.specs.declared.order.OrderKind.{OrderKind}
 use Rattle.ledger.specs.declared.order.OrderKind.TheVariants.{SellOpen, BuyOpen, BuyClose, SellClose, LegClose}
@@ -10,23 +11,25 @@ use Rattle.ledger.specs.declared.tables.Tables.{Tables}
 use Rattle.margin.specs.ByCode.{by_code}
 use Rattle.margin.specs.Meaning.{Meaning}
 use Rattle.ledger.specs.ByCode.{unit_of}
-use Rattle.ledger.specs.Ledger.{Ledger, under, put, order_less, fewer, filled, combination_less, traded as entered_trade, orders_to as ledger_orders_to, cash_out, written_to}
+use Rattle.ledger.specs.Ledger.{Ledger, under, put, order_less, more, fewer, filled, combination_less, traded as entered_trade, orders_to as ledger_orders_to, cash_out, written_to}
 use Rattle.ledger.specs.Content.{Pairing, sells, contract_of}
-use Rattle.ledger.specs.Law.{contracts_of, engaged, combination_under}
-use Rattle.ledger.specs.Amounts.{leg_close_reserve, pair_margin, other_leg_margin}
+use Rattle.ledger.specs.Law.{contracts_of, reserve, engaged, engages, combination_under, closes_written, closes_bought, when}
+use Rattle.ledger.specs.Amounts.{leg_close_reserve}
 use Rattle.ledger.specs.Tests.{is_none}
-use Rattle.ledger.specs.FillRules.{traded, leg_traded, freed, disengaged, reserve_per_lot, leg_reserve, fill_funds, fill_tests}
-use Rattle.ledger.specs.Moves.{order_rest, orders_to, funds_to, combinations_to, combination_rest, at, closing_written}
+use Rattle.ledger.specs.FillRules.{traded, leg_traded, freed, disengaged, reserve_per_lot, leg_reserve, fill_funds, filled_funds, flow, leg_flow, fill_tests}
+use Rattle.ledger.specs.Moves.{order_rest, orders_to, funds_to, combinations_to, combination_rest, at, writing, buying, closing_bought, closing_written, unlocking_bought, unlocking_written}
 use Rattle.ledger.specs.Runs.{Law, LegOf}
 use Rattle.ledger.proofs.Stays.{FillStays, CancelStays}
 use Rattle.ledger.proofs.Tests.{refused_keeps, unmet, some_of, stands_as, unmet_at}
 use Rattle.ledger.proofs.Shares.{all_gone, all_freed}
-use Rattle.ledger.proofs.Leaving.{left, Part}
-use Rattle.ledger.proofs.Plain.{sell_open_filled, buy_open_filled, buy_close_filled, sell_close_filled, open_cancelled, buy_close_cancelled, sell_close_cancelled}
+use Rattle.ledger.proofs.Codes.{one_here}
+use Rattle.ledger.proofs.Covered.{flow_covered}
+use Rattle.ledger.proofs.Leaving.{left, left_tables, Part, engaged_left}
+use Rattle.ledger.proofs.Plain.{returned, stays, freed as unlocked, opened, closed, moving_keeps, still_keeps}
+use Rattle.ledger.proofs.Engaging.{row_engaged}
 use Rattle.ledger.proofs.Pairings.{combination_with}
 use Rattle.ledger.proofs.Others.{OtherLeg, other_of}
 use Rattle.ledger.proofs.LegFill.{leg_close_filled}
-use Rattle.ledger.proofs.LegCancel.{leg_close_cancelled}
 
 module _ (m : Meaning) (l : Ledger) (b : Tables) (law : Law m l b) (n : ℕ) where
   abbrev made : ℕ → OrderKind → ℕ → ℕ → Order
@@ -55,7 +58,7 @@ module _ (m : Meaning) (l : Ledger) (b : Tables) (law : Law m l b) (n : ℕ) whe
         let premium : ℕ = lots * price * unit_of (by_code (contracts_of b) c) in
         let before : Ledger = ledger_orders_to (put n (order_less lots o) l.orders) l in
         let known : Ledger = cash_out premium (written_to (fewer p.account c lots l.written) (combination_less k lots (Some p) before)) in
-        let filled_up : Tables → Tables = λ to. funds_to (fill_funds (lots * leg_close_reserve m (contracts_of b) c limit (Some p)) 0 premium (lots * pair_margin m (contracts_of b) p) (lots * other_leg_margin m (contracts_of b) c p) b.funds)
+        let filled_up : Tables → Tables = λ to. funds_to (filled_funds (leg_flow m b c limit lots price (Some (combination_with (engaged l k) p))) b.funds)
         (combinations_to (combination_rest k lots lots (combination_with (engaged l k) p) b.combinations) b.combination_series to) in
         let law' : Law m known (filled_up (at p.account leg.other leg.move (at p.account c (closing_written lots) (rest o))))
         = leg_close_filled m l b law n k c lots price whole limit p stands part leg cheap in
@@ -68,11 +71,57 @@ module _ (m : Meaning) (l : Ledger) (b : Tables) (law : Law m l b) (n : ℕ) whe
         (sells kind && ltb (10 ^ 17) (b.funds.cash + lots * price * unit_of (by_code (contracts_of b) (contract_of kind)))) ≡ false →
         Law m (ledger_then (made a kind whole limit)) (tables_then (made a kind whole limit))
     filled_as (SellOpen c) a whole limit part priced cashed =
-        sell_open_filled m l b law n lots price a c whole limit part (omega (arith, law.beside.cash, ltb-false (10 ^ 17) (b.funds.cash + lots * price * unit_of (by_code (contracts_of b) c)) cashed))
-    filled_as (BuyOpen c) a whole limit part priced cashed = buy_open_filled m l b law n lots price a c whole limit part (ltb-false limit price priced)
-    filled_as (BuyClose c) a whole limit part priced cashed = buy_close_filled m l b law n lots price a c whole limit part (ltb-false limit price priced)
+        moving_keeps m l b law n lots (made a (SellOpen c) whole limit) part (flow m b (SellOpen c) limit lots price) _ _ l.bought (more a c lots l.written) (writing lots) 0 0 0 lots (record {
+          covered = flow_covered m b limit lots price (SellOpen c) priced;
+          came_is = refl;
+          went_is = omega arith;
+          cash_most = omega (arith, law.beside.cash, ltb-false (10 ^ 17) (b.funds.cash + lots * price * unit_of (by_code (contracts_of b) c)) cashed);
+          unengaged = λ k. refl;
+          reserve_is = refl;
+          bought_side = stays refl;
+          written_side = opened lots (one_here a c lots 0) refl;
+          back_is = omega arith;
+          taken_is = omega arith;
+        })
+    filled_as (BuyOpen c) a whole limit part priced cashed =
+        moving_keeps m l b law n lots (made a (BuyOpen c) whole limit) part (flow m b (BuyOpen c) limit lots price) _ _ (more a c lots l.bought) l.written (buying lots) 0 lots 0 0 (record {
+          covered = flow_covered m b limit lots price (BuyOpen c) priced;
+          came_is = omega arith;
+          went_is = refl;
+          cash_most = omega (arith, law.sound.cash);
+          unengaged = λ k. refl;
+          reserve_is = refl;
+          bought_side = opened lots (one_here a c lots 0) refl;
+          written_side = stays refl;
+          back_is = omega arith;
+          taken_is = omega arith;
+        })
+    filled_as (BuyClose c) a whole limit part priced cashed =
+        moving_keeps m l b law n lots (made a (BuyClose c) whole limit) part (flow m b (BuyClose c) limit lots price) _ _ l.bought (fewer a c lots l.written) (closing_written lots) 0 0 lots 0 (record {
+          covered = flow_covered m b limit lots price (BuyClose c) priced;
+          came_is = omega arith;
+          went_is = refl;
+          cash_most = omega (arith, law.sound.cash);
+          unengaged = λ k. refl;
+          reserve_is = refl;
+          bought_side = stays refl;
+          written_side = closed lots (one_here a c lots 0);
+          back_is = omega arith;
+          taken_is = omega arith;
+        })
     filled_as (SellClose c) a whole limit part priced cashed =
-        sell_close_filled m l b law n lots price a c whole limit part (omega (arith, law.beside.cash, ltb-false (10 ^ 17) (b.funds.cash + lots * price * unit_of (by_code (contracts_of b) c)) cashed))
+        moving_keeps m l b law n lots (made a (SellClose c) whole limit) part (flow m b (SellClose c) limit lots price) _ _ (fewer a c lots l.bought) l.written (closing_bought lots) lots 0 0 0 (record {
+          covered = flow_covered m b limit lots price (SellClose c) priced;
+          came_is = refl;
+          went_is = omega arith;
+          cash_most = omega (arith, law.beside.cash, ltb-false (10 ^ 17) (b.funds.cash + lots * price * unit_of (by_code (contracts_of b) c)) cashed);
+          unengaged = λ k. refl;
+          reserve_is = omega arith;
+          bought_side = closed lots (one_here a c lots 0);
+          written_side = stays refl;
+          back_is = omega arith;
+          taken_is = omega arith;
+        })
     filled_as (LegClose k c) a whole limit part priced cashed =
         let g : LegOf l.combinations a k c = (law.sound.orders n (made a (LegClose k c) whole limit) part.stands).leg in
         let p : Pairing = g.combination in
@@ -84,19 +133,59 @@ module _ (m : Meaning) (l : Ledger) (b : Tables) (law : Law m l b) (n : ℕ) whe
   abbrev cancelled_then : Order → List (Row Order) → Tables
   cancelled_then o rows = funds_to (fill_funds (o.lots * reserve_per_lot m b o.kind o.limit) 0 0 0 0 b.funds) (freed b o.kind o (orders_to rows b.order_series b))
 
+  -- a cancel that frees no lots
+  open_cancelled : (kind : OrderKind) (a lots limit : ℕ) → Part l n lots (made a kind lots limit) → ((k : ℕ) → engages k (made a kind lots limit) kind ≡ 0) →
+      ((i j : ℕ) → (closes_written i j (made a kind lots limit) kind ≡ 0) × (closes_bought i j (made a kind lots limit) kind ≡ 0)) →
+      Law m (left l n lots (made a kind lots limit) l.came_in l.went_out l.bought l.written l.combinations)
+      (left_tables b n lots (made a kind lots limit) b.positions b.combinations (filled_funds (returned (lots * reserve m (contracts_of b) l.combinations kind limit)) b.funds))
+  open_cancelled kind a lots limit part un none =
+      still_keeps m l b law n lots (made a kind lots limit) part (lots * reserve m (contracts_of b) l.combinations kind limit) b.combinations refl none
+      (λ k. law.beside.combinations k ∙ ap (λ z. combination_under z (under l.combinations k)) (omega (arith, engaged_left m l b law n lots (made a kind lots limit) part k, un k))) law.sound.combination_rows
+
   cancelled_as : (kind : OrderKind) (a lots limit : ℕ) → Part l n lots (made a kind lots limit) →
       Law m (left l n lots (made a kind lots limit) l.came_in l.went_out l.bought l.written l.combinations) (cancelled_then (made a kind lots limit) (order_rest n lots (made a kind lots limit) b.orders))
-  cancelled_as (SellOpen c) a lots limit part = open_cancelled m l b law n a c lots limit (SellOpen c) part (λ k. refl) (λ x y. refl) (λ x y. refl)
-  cancelled_as (BuyOpen c) a lots limit part = open_cancelled m l b law n a c lots limit (BuyOpen c) part (λ k. refl) (λ x y. refl) (λ x y. refl)
-  cancelled_as (BuyClose c) a lots limit part = buy_close_cancelled m l b law n a c lots limit part
-  cancelled_as (SellClose c) a lots limit part = sell_close_cancelled m l b law n a c lots limit part
+  cancelled_as (SellOpen c) a lots limit part = open_cancelled (SellOpen c) a lots limit part (λ k. refl) (λ i j. (refl, refl))
+  cancelled_as (BuyOpen c) a lots limit part = open_cancelled (BuyOpen c) a lots limit part (λ k. refl) (λ i j. (refl, refl))
+  cancelled_as (BuyClose c) a lots limit part =
+      moving_keeps m l b law n lots (made a (BuyClose c) lots limit) part (returned (lots * (limit * unit_of (by_code (contracts_of b) c)))) _ _ l.bought l.written (unlocking_written lots) 0 0 0 0 (record {
+        covered = omega arith;
+        came_is = omega arith;
+        went_is = omega arith;
+        cash_most = omega (arith, law.sound.cash);
+        unengaged = λ k. refl;
+        reserve_is = refl;
+        bought_side = stays refl;
+        written_side = unlocked lots (one_here a c lots 0);
+        back_is = omega arith;
+        taken_is = omega arith;
+      })
+  cancelled_as (SellClose c) a lots limit part =
+      moving_keeps m l b law n lots (made a (SellClose c) lots limit) part (returned (lots * 0)) _ _ l.bought l.written (unlocking_bought lots) 0 0 0 0 (record {
+        covered = omega arith;
+        came_is = omega arith;
+        went_is = omega arith;
+        cash_most = omega (arith, law.sound.cash);
+        unengaged = λ k. refl;
+        reserve_is = refl;
+        bought_side = unlocked lots (one_here a c lots 0);
+        written_side = stays refl;
+        back_is = omega arith;
+        taken_is = omega arith;
+      })
   cancelled_as (LegClose k c) a lots limit part =
       let o : Order = made a (LegClose k c) lots limit in
       let g : LegOf l.combinations a k c = (law.sound.orders n o part.stands).leg in
-      subst (λ z. Law m (left l n lots o l.came_in l.went_out l.bought l.written l.combinations)
-      (funds_to (fill_funds (lots * leg_reserve m b c limit z) 0 0 0 0 b.funds) (disengaged b k lots (orders_to (order_rest n lots o b.orders) b.order_series b) z)))
-      (sym (row_found k g.combination g.stands))
-      (leg_close_cancelled m l b law n k a c lots limit g.combination g.stands part)
+      let p : Pairing = g.combination in
+      let l' : Ledger = left l n lots o l.came_in l.went_out l.bought l.written l.combinations in
+      let found : lookup b.combinations k ≡ Some (combination_with (engaged l k) p) = row_found k p g.stands in
+      let less : (j : ℕ) → engaged l' j + when (eqb k j) lots ≡ engaged l j = λ j. engaged_left m l b law n lots o part j in
+      subst (λ z. Law m l' (funds_to (fill_funds (lots * leg_reserve m b c limit z) 0 0 0 0 b.funds) (disengaged b k lots (orders_to (order_rest n lots o b.orders) b.order_series b) z))) (sym found)
+      (still_keeps m l b law n lots o part (lots * leg_close_reserve m (contracts_of b) c limit (Some p)) (changed b.combinations k (combination_with (engaged l k - lots) p))
+      (ap (λ z. lots * leg_close_reserve m (contracts_of b) c limit z) (sym g.stands)) (λ i j. (refl, refl))
+      (λ j. row_engaged b.combinations k j (engaged l k) (engaged l k - lots) (engaged l' j) p (under l.combinations j) found (λ e. ap (under l.combinations) (sym e) ∙ g.stands)
+      (λ e. omega (arith, less j, cond-true _ lots 0 (eq-eqb k j e), ap (engaged l) e))
+      (λ ne. law.beside.combinations j ∙ ap (λ z. combination_under z (under l.combinations j)) (omega (arith, less j, cond-false _ lots 0 (ne_eqb k j ne)))))
+      (apart_changed b.combinations k (combination_with (engaged l k - lots) p) law.sound.combination_rows))
 
 pub fill_stays : FillStays
 fill_stays m b n lots price l (Err e) after law h = refused_keeps law h.1

@@ -1,19 +1,18 @@
 -- A sum over accounts and contracts, where it changes at one account and code.
 use Rattle.std.proofs.Common.{◌≡◌, ℕ, ◌+◌, ◌*◌, ◌<◌, ◌≤◌, cond, ◌&&◌, eqb, ◌⊎◌, List, [], ◌∷◌, Some, sum_by, sym, refl, ap, ◌∙◌, inl, inr, ⊎_elim, arith}
-use Rattle.std.proofs.lemmas.List.Sums.{sum_by-cons}
-use Rattle.std.proofs.lemmas.Bool.{cases_eq, cond-true, cond-false}
+use Rattle.std.proofs.lemmas.List.Sums.{sum_by-cons, sum_by-le-sum_by}
+use Rattle.std.proofs.lemmas.Bool.{cases_eq}
 use Rattle.margin.specs.ByCode.{by_code}
 use Rattle.margin.specs.declared.contract.Contract.{Contract}
 use Rattle.ledger.specs.Law.{accounts}
 use Rattle.ledger.specs.Runs.{Rising}
-use Rattle.ledger.proofs.Codes.{listed_parts, listed_code, both, not_both, one_or_not}
+use Rattle.ledger.proofs.Codes.{listed_parts, listed_code, at_one, one_here, one_else}
 
 abbrev line : (Contract → ℕ) → List Contract → ℕ
 line f cs = sum_by f cs
 
 line_same : (cs : List Contract) (f g : Contract → ℕ) → ((d : Contract) → f d ≡ g d) → line f cs ≡ line g cs
-line_same [] f g h = refl
-line_same (d ∷ cs) f g h = omega (arith, h d, line_same cs f g h, sum_by-cons f d cs, sum_by-cons g d cs)
+line_same cs f g h = omega (arith, sum_by-le-sum_by f g cs (λ d. omega (arith, h d)), sum_by-le-sum_by g f cs (λ d. omega (arith, h d)))
 
 line_above : (cs : List Contract) (low : ℕ) (f g : Contract → ℕ) → Rising low cs → ((d : Contract) → low < d.code → f d ≡ g d) → line f cs ≡ line g cs
 line_above [] low f g r h = refl
@@ -68,11 +67,8 @@ pub legs_moved_twice : (leg : Contract → ℕ) (F G : ℕ → ℕ → ℕ) (cs 
     grid (λ x d. leg d * F x d.code) cs + (leg c * G a code + leg d * G a other) ≡ grid (λ x d. leg d * G x d.code) cs + (leg c * F a code + leg d * F a other)
 legs_moved_twice leg F G cs low a code other c d r is is₂ apart lo hi h =
     let H : ℕ → ℕ → ℕ = λ x y. cond (eqb x a && eqb y code) (G x y) (F x y) in
-    let H_code : H a code ≡ G a code = cond-true _ _ _ (both a a code code refl refl) in
-    let H_else : (x y : ℕ) → ((x ≡ a) × (y ≡ code) → ⊥) → H x y ≡ F x y = λ x y n. cond-false _ _ _ (not_both x a y code n) in
+    let H_else : (x y : ℕ) → ((x ≡ a) × (y ≡ code) → ⊥) → H x y ≡ F x y = λ x y. one_else a code (G x y) (F x y) x y in
     let one = legs_moved leg F H cs low a code c r is lo hi (λ x y n. sym (H_else x y n)) in
     let two = legs_moved leg H G cs low a other d r is₂ lo hi
-    (λ x y n. ⊎_elim
-    (λ e. let e₀ : x ≡ a = e.0 in let e₁ : y ≡ code = e.1 in cond-true _ _ _ (both x a y code e₀ e₁))
-    (λ ne. H_else x y ne ∙ h x y ne n) (one_or_not x a y code)) in
-    omega (arith, one, two, ap (λ z. leg c * z) H_code, ap (λ z. leg d * z) (H_else a other (λ q. apart (sym q.1))))
+    (at_one (λ x y. ((x ≡ a) × (y ≡ other) → ⊥) → H x y ≡ G x y) a code (λ _. one_here a code _ _) (λ x y ne n. H_else x y ne ∙ h x y ne n)) in
+    omega (arith, one, two, ap (λ z. leg c * z) (one_here a code (G a code) (F a code)), ap (λ z. leg d * z) (H_else a other (λ q. apart (sym q.1))))

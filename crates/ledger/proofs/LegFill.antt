@@ -12,18 +12,18 @@ use Rattle.margin.specs.Meaning.{Meaning}
 use Rattle.ledger.specs.ByCode.{unit_of}
 use Rattle.ledger.specs.Ledger.{Ledger, Entry, under, put, pairing_less, order_less, fewer}
 use Rattle.ledger.specs.Content.{Pairing}
-use Rattle.ledger.specs.Law.{Lots, contracts_of, position_of, position_row, engaged, engages, combination_under, reserve, reserves, margin_held, in_combinations, written_claim, bought_claim, closes_written, closes_bought, claimed_written, claimed_bought, when}
+use Rattle.ledger.specs.Law.{Lots, contracts_of, position_of, position_row, engaged, engages, combination_under, reserve, reserves, margin_held, in_combinations, written_claim, bought_claim, claimed_written, claimed_bought, when}
 use Rattle.ledger.specs.Amounts.{leg_close_reserve, pair_margin, other_leg_margin}
 use Rattle.ledger.specs.Moves.{at, closing_written, combination_rest}
-use Rattle.ledger.specs.FillRules.{fill_funds}
+use Rattle.ledger.specs.FillRules.{Flow, leg_flow, filled_funds}
 use Rattle.ledger.specs.Runs.{Law, SoundOrder}
-use Rattle.ledger.proofs.Entries.{weighed, weighed_part, weighed_same, numbers_put}
+use Rattle.ledger.proofs.Entries.{weighed_part, weighed_same, numbers_put}
 use Rattle.ledger.proofs.Grid.{legs_moved}
-use Rattle.ledger.proofs.Shares.{times_more, weighed_less, less_parts, closes_written_by, closes_bought_by, reserve_by}
-use Rattle.ledger.proofs.Moved.{AllLots, lots_moved_twice, fewer_here, fewer_else}
-use Rattle.ledger.proofs.Leaving.{left, left_tables, Part, left_keeps, engaged_left, opens_written_left, opens_bought_left, legs_left}
-use Rattle.ledger.proofs.Covered.{funds_sum, funds_cash, covers}
-use Rattle.ledger.proofs.Plain.{at_one}
+use Rattle.ledger.proofs.Shares.{times_both, less_parts}
+use Rattle.ledger.proofs.Moved.{AllLots, lots_moved_twice}
+use Rattle.ledger.proofs.Leaving.{left, left_tables, Part, left_keeps, closes_written_left, closes_bought_left, engaged_left, reserves_left, legs_left}
+use Rattle.ledger.proofs.Covered.{leg_covered}
+use Rattle.ledger.proofs.Codes.{at_one, one_here, one_else}
 use Rattle.ledger.proofs.Pairings.{combination_with, pair_lots, pairs_less, written_claim_by, bought_claim_by, pair_margin_by, rows_less, sound_less, apart_pair_rest, pair_less_parts}
 use Rattle.ledger.proofs.Legs.{NamedStays, leg_stays, reserve_stays, less_stays}
 use Rattle.ledger.proofs.Others.{OtherLeg}
@@ -58,7 +58,7 @@ module _ (m : Meaning) (l : Ledger) (b : Tables) (law : Law m l b) (n k c lots p
     P = pair_lots lots p
 
     less_engaged : (j : ℕ) → engaged l' j + when (eqb k j) lots ≡ engaged l j
-    less_engaged j = engaged_left m l b law n lots order part j l.came_in (l.went_out + premium) l.bought W es
+    less_engaged j = engaged_left m l b law n lots order part j
 
     here_engaged : engaged l' k + lots ≡ engaged l k
     here_engaged = omega (arith, less_engaged k, cond-true (eqb k k) lots 0 (eq-eqb k k refl))
@@ -83,14 +83,10 @@ module _ (m : Meaning) (l : Ledger) (b : Tables) (law : Law m l b) (n k c lots p
     less_written x y = pairs_less (written_claim x y) (written_claim_by x y) ps k lots p stands enough
 
     claims_written : (x y : ℕ) → claimed_written l' x y + written_claim x y P ≡ claimed_written l x y
-    claims_written x y = omega (arith, less_written x y, weighed_less (λ z. closes_written x y z z.kind) (closes_written_by x y) l.orders n lots order part.stands part.within)
+    claims_written x y = omega (arith, less_written x y, closes_written_left m l b law n lots order part x y)
 
     claims_bought : (x y : ℕ) → claimed_bought l' x y + bought_claim x y P ≡ claimed_bought l x y
-    claims_bought x y = omega (
-      arith,
-      pairs_less (bought_claim x y) (bought_claim_by x y) ps k lots p stands enough,
-      weighed_less (λ z. closes_bought x y z z.kind) (closes_bought_by x y) l.orders n lots order part.stands part.within,
-    )
+    claims_bought x y = omega (arith, pairs_less (bought_claim x y) (bought_claim_by x y) ps k lots p stands enough, closes_bought_left m l b law n lots order part x y)
 
     fit : SoundOrder cs ps order
     fit = law.sound.orders n order part.stands
@@ -102,14 +98,17 @@ module _ (m : Meaning) (l : Ledger) (b : Tables) (law : Law m l b) (n k c lots p
     lot_other = law.beside.lots a leg.other leg.contract fit.account.0 fit.account.1 leg.is_listed
 
     W_here : W a c ≡ l.written a c - lots
-    W_here = fewer_here a c lots l.written
+    W_here = one_here a c (l.written a c - lots) (l.written a c)
+
+    W_else : (x y : ℕ) → ((x ≡ a) × (y ≡ c) → ⊥) → W x y ≡ l.written x y
+    W_else x y = one_else a c (l.written x y - lots) (l.written x y) x y
 
     W_other : W a leg.other ≡ l.written a leg.other
-    W_other = fewer_else a c lots l.written a leg.other (λ q. leg.apart q.1)
+    W_other = W_else a leg.other (λ q. leg.apart q.1)
 
     moved_lots : AllLots l' (at a leg.other leg.move (at a c (closing_written lots) b))
-    moved_lots = lots_moved_twice l l' b a c leg.other fit.contract.0 leg.contract (closing_written lots) leg.move law.sound.count law.sound.position_rows fit.account.0 fit.account.1
-        fit.contract.1 leg.is_listed leg.apart law.beside.lots
+    moved_lots = lots_moved_twice l l' b a c fit.contract.0 (closing_written lots) law.sound.count law.sound.position_rows fit.account.0 fit.account.1 fit.contract.1 law.beside.lots
+        leg.other leg.contract leg.move leg.is_listed leg.apart
         (record {
           bought = lot.bought;
           written = omega (arith, lot.written, W_here);
@@ -128,7 +127,7 @@ module _ (m : Meaning) (l : Ledger) (b : Tables) (law : Law m l b) (n k c lots p
         })
         (λ x y nh no. record {
           bought = refl;
-          written = fewer_else a c lots l.written x y nh;
+          written = W_else x y nh;
           claimed_bought = omega (arith, claims_bought x y, leg.bought_else x y nh no);
           claimed_written = omega (arith, claims_written x y, leg.written_else x y nh no);
         })
@@ -137,28 +136,25 @@ module _ (m : Meaning) (l : Ledger) (b : Tables) (law : Law m l b) (n k c lots p
     free_else : (x y : ℕ) → ((x ≡ a) × (y ≡ leg.other) → ⊥) → W x y - in_combinations l' x y ≡ l.written x y - in_combinations l x y
     free_else = at_one (λ x y. ((x ≡ a) × (y ≡ leg.other) → ⊥) → W x y - in_combinations l' x y ≡ l.written x y - in_combinations l x y) a c
         (λ _. omega (arith, W_here, less_written a c, leg.written_here, lot.written_free))
-        (λ x y nh no. omega (arith, fewer_else a c lots l.written x y nh, less_written x y, leg.written_else x y nh no))
+        (λ x y nh no. omega (arith, W_else x y nh, less_written x y, leg.written_else x y nh no))
 
     held_left : margin_held m cs l' + lots * pair_margin m cs p ≡ b.funds.held + lots * other_leg_margin m cs c p
     held_left =
         let sums = legs_moved m.leg (λ x y. W x y - in_combinations l' x y) (λ x y. l.written x y - in_combinations l x y) cs 0 a leg.other leg.contract law.sound.codes leg.is_listed fit.account.0 fit.account.1 free_else in
-        let free : m.leg leg.contract * (W a leg.other - in_combinations l' a leg.other) ≡ m.leg leg.contract * (l.written a leg.other - in_combinations l a leg.other) + m.leg leg.contract * leg.freed_written
-        = times_more _ _ leg.freed_written (m.leg leg.contract) (omega (arith, W_other, less_written a leg.other, leg.written_other, lot_other.written_free)) in
+        let free = times_both (W a leg.other - in_combinations l' a leg.other) 0 (l.written a leg.other - in_combinations l a leg.other) leg.freed_written (m.leg leg.contract)
+        (omega (arith, W_other, less_written a leg.other, leg.written_other, lot_other.written_free)) in
         omega (arith, law.beside.held, sums, free, leg.margin, pairs_less (λ z. z.lots * pair_margin m cs z) (pair_margin_by m cs) ps k lots p stands enough)
 
     -- reserves
     reserves_less : reserves m cs l' + lots * leg_close_reserve m cs c limit (Some p) ≡ b.funds.reserved
     reserves_less =
-        let same : reserves m cs l' ≡ weighed (λ z. z.lots * reserve m cs ps z.kind z.limit) l'.orders
-        = weighed_same (λ z. z.lots * reserve m cs es z.kind z.limit) (λ z. z.lots * reserve m cs ps z.kind z.limit) l'.orders l.next_order
-        (numbers_put l.orders l.next_order n (order_less lots order) law.sound.order_numbers)
-        (λ j x s. ap (λ z. x.lots * z) (reserve_stays ps es x.account m cs x.kind x.limit (named_stays j x s) (legs_left m l b law n lots order part j x s))) in
         omega (
           arith,
-          same,
-          law.beside.reserved,
+          weighed_same (λ z. z.lots * reserve m cs es z.kind z.limit) (λ z. z.lots * reserve m cs ps z.kind z.limit) l'.orders l.next_order
+              (numbers_put l.orders l.next_order n (order_less lots order) law.sound.order_numbers)
+              (λ j x s. ap (λ z. x.lots * z) (reserve_stays ps es x.account m cs x.kind x.limit (named_stays j x s) (legs_left m l b law n lots order part j x s))),
           ap (λ z. lots * leg_close_reserve m cs c limit z) stands,
-          weighed_less (λ z. z.lots * reserve m cs ps z.kind z.limit) (reserve_by m cs ps) l.orders n lots order part.stands part.within,
+          reserves_left m l b law n lots order part,
         )
 
     found : lookup b.combinations k ≡ Some (combination_with (engaged l k) p)
@@ -169,19 +165,20 @@ module _ (m : Meaning) (l : Ledger) (b : Tables) (law : Law m l b) (n k c lots p
         (λ e. omega (arith, less_engaged j, cond-true (eqb k j) lots 0 (eq-eqb k j e), ap (engaged l) e))
         (λ ne. law.beside.combinations j ∙ ap (λ z. combination_under z (under ps j)) (omega (arith, less_engaged j, cond-false (eqb k j) lots 0 (ne_eqb k j ne))))
 
-    pub leg_close_filled : Law m l'
-        (left_tables b n lots order (at a leg.other leg.move (at a c (closing_written lots) b)).positions (combination_rest k lots lots (combination_with (engaged l k) p) b.combinations)
-        (fill_funds (lots * leg_close_reserve m cs c limit (Some p)) 0 premium (lots * pair_margin m cs p) (lots * other_leg_margin m cs c p) b.funds))
+    abbrev w : Flow
+    w = leg_flow m b c limit lots price (Some (combination_with (engaged l k) p))
+
+    pub leg_close_filled : Law m l' (left_tables b n lots order (at a leg.other leg.move (at a c (closing_written lots) b)).positions (combination_rest k lots lots (combination_with (engaged l k) p) b.combinations) (filled_funds w b.funds))
     leg_close_filled =
-        left_keeps m l b law n lots order part l.came_in (l.went_out + premium) l.bought W es _ _ _ (record {
-          cash = funds_cash (lots * leg_close_reserve m cs c limit (Some p)) 0 premium (lots * pair_margin m cs p) (lots * other_leg_margin m cs c p) b.funds.balance b.funds.held b.funds.reserved b.funds.cash l.went_out l.came_in law.beside.cash law.beside.sum
-              (omega (arith, reserves_less)) (omega (arith, held_left)) (covers lots price limit (unit_of (by_code cs c)) (other_leg_margin m cs c p) (pair_margin m cs p) cheap) ∙ omega arith;
+        left_keeps m l b law n lots order part w l.came_in (l.went_out + premium) l.bought W es _ _ (record {
+          covered = leg_covered m b limit lots price c (Some (combination_with (engaged l k) p)) cheap;
+          came_is = omega arith;
+          went_is = refl;
           cash_most = omega (arith, law.sound.cash);
-          owned = λ x y some. law.sound.owned x y (omega (arith, some, at_one (λ x y. W x y ≤ l.written x y) a c (omega (arith, W_here)) (λ x y off. omega (arith, fewer_else a c lots l.written x y off)) x y));
           rows = length-set (at a c (closing_written lots) b).positions (position_row b a leg.other) (leg.move (position_of (at a c (closing_written lots) b) a leg.other)) ∙ length-set b.positions (position_row b a c) (closing_written lots (position_of b a c)) ∙ law.sound.position_rows;
-          lots = moved_lots;
+          lots_are = moved_lots;
           combinations = rows_left;
-          apart = apart_pair_rest b.combinations k lots lots (engaged l k) p found law.sound.combination_rows;
+          apart = apart_pair_rest b.combinations k lots lots (engaged l k) p law.sound.combination_rows;
           numbers = numbers_put ps l.next_combination k (pairing_less lots p) law.sound.combination_numbers;
           sound = sound_less cs ps l.next_combination k lots p law.sound.combination_numbers stands law.sound.combinations;
           engaged_most = λ j q s. ⊎_elim
@@ -189,10 +186,8 @@ module _ (m : Meaning) (l : Ledger) (b : Tables) (law : Law m l b) (n k c lots p
               (λ h. omega (arith, less_engaged j, law.sound.engaged_most j q h.1))
               (pair_less_parts ps l.next_combination k lots j p q law.sound.combination_numbers stands s);
           legs = λ j x s. leg_stays ps es x.account x.kind (named_stays j x s) (legs_left m l b law n lots order part j x s);
-          held = omega (arith, held_left);
-          reserved = omega (arith, reserves_less);
-          sum = funds_sum (lots * leg_close_reserve m cs c limit (Some p)) 0 premium (lots * pair_margin m cs p) (lots * other_leg_margin m cs c p) b.funds.balance b.funds.held b.funds.reserved l.went_out l.came_in law.beside.sum
-              (omega (arith, reserves_less)) (omega (arith, held_left)) (covers lots price limit (unit_of (by_code cs c)) (other_leg_margin m cs c p) (pair_margin m cs p) cheap) ∙ omega arith;
-          written_most = λ x y. omega (arith, law.sound.written_most x y, opens_written_left m l b law n lots order part x y, at_one (λ x y. W x y ≤ l.written x y) a c (omega (arith, W_here)) (λ x y off. omega (arith, fewer_else a c lots l.written x y off)) x y);
-          bought_most = λ x y. omega (arith, law.sound.bought_most x y, opens_bought_left m l b law n lots order part x y);
+          held = held_left;
+          reserved = reserves_less;
+          written_most = at_one (λ x y. W x y ≤ l.written x y + 0) a c (omega (arith, W_here)) (λ x y off. omega (arith, W_else x y off));
+          bought_most = λ x y. omega arith;
         })

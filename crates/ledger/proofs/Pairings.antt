@@ -1,6 +1,6 @@
 -- Some lots of a combination gone: what stands, and what the sums that go by lots come to. And the legs of a combination.
 use Rattle.std.proofs.Common.{◌≡◌, ℕ, ◌+◌, ◌-◌, ◌*◌, ◌<◌, ◌≤◌, Bool, true, false, cond, ◌&&◌, eqb, ltb, leb, ◌⊎◌, List, Some, None, Option, sym, refl, ap, ◌∙◌, subst, inl, inr, ⊎_elim, arith}
-use Rattle.std.proofs.lemmas.Bool.{eq-eqb, ne_eqb, eqb-true, ltb-true, leb-true, cond-true, cond-false, cases_eq, cases_Bool, and_parts, or_cases}
+use Rattle.std.proofs.lemmas.Bool.{eq-eqb, ne_eqb, eqb-true, le-ltb, leb-true, both_ways, cond-true, cond-false, cases_eq, cases_Bool, and_parts, or_cases}
 use Rattle.margin.specs.ByCode.{by_code}
 use Rattle.margin.specs.declared.contract.Contract.{Contract}
 use Rattle.margin.specs.declared.contract.Right.{Right}
@@ -10,8 +10,7 @@ use Rattle.margin.specs.declared.strategy.Strategy.TheVariants.{BullCallSpread, 
 use Rattle.margin.specs.Fits.{fits, rights_fit, strikes_fit}
 use Rattle.margin.specs.Strategies.{first_written}
 use Rattle.register.specs.declared.row.Row.{Row}
-use Rattle.register.specs.Rows.{lookup, changed, removed, Apart}
-use Rattle.register.proofs.After.{lookup_changed, lookup_removed, apart_changed, apart_removed}
+use Rattle.register.specs.Rows.{lookup, Apart}
 use Rattle.ledger.specs.declared.order.Combination.{Combination}
 use Rattle.margin.specs.Meaning.{Meaning}
 use Rattle.ledger.specs.Ledger.{Entry, under, put, pairing_less}
@@ -22,7 +21,7 @@ use Rattle.ledger.specs.CombinationRules.{written_leg}
 use Rattle.ledger.specs.Runs.{Numbers, Fitted, SoundCombination}
 use Rattle.ledger.specs.Amounts.{pair_margin}
 use Rattle.ledger.proofs.Entries.{weighed, under_put}
-use Rattle.ledger.proofs.Lessened.{weighed_lessened, lessened_parts}
+use Rattle.ledger.proofs.Lessened.{weighed_lessened, lessened_parts, lookup_rest, apart_rest}
 use Rattle.ledger.proofs.Shares.{when_split, split_mul}
 
 abbrev pub pair_lots : ℕ → Pairing → Pairing
@@ -66,23 +65,12 @@ pair_margin_by m cs p k h = split_mul p.lots k (pair_margin m cs p) h
 
 -- Rows and entries of combinations ----------------------------------------------------------------
 
-lookup_pair_rest : (rows : List (Row Combination)) (n lots gone k eng : ℕ) (p : Pairing) → Apart rows → lookup rows n ≡ Some (combination_with eng p) →
-    lookup (combination_rest n lots gone (combination_with eng p) rows) k ≡ cond (eqb n k) (combination_under (eng - gone) (pairing_less lots p)) (lookup rows k)
-lookup_pair_rest rows n lots gone k eng p a s =
-    ⊎_elim (λ t. let freed : combination_rest n lots gone (combination_with eng p) rows ≡ removed rows n = cond-true _ _ _ t in
-    let none : pairing_less lots p ≡ None = cond-true _ _ _ t in
-    ap (λ rs. lookup rs k) freed ∙ lookup_removed rows n k a ∙ ap (λ x. cond (eqb n k) (combination_under (eng - gone) x) (lookup rows k)) (sym none))
-    (λ t. let rest : combination_rest n lots gone (combination_with eng p) rows ≡ changed rows n (combination_with (eng - gone) (pair_lots (p.lots - lots) p)) = cond-false _ _ _ t in
-    let some : pairing_less lots p ≡ Some (pair_lots (p.lots - lots) p) = cond-false _ _ _ t in
-    ap (λ rs. lookup rs k) rest ∙ lookup_changed rows n k (combination_with (eng - gone) (pair_lots (p.lots - lots) p)) (combination_with eng p) s ∙ ap (λ x. cond (eqb n k) (combination_under (eng - gone) x) (lookup rows k)) (sym some))
-    (cases_Bool (leb p.lots lots))
+row_left : (t : Bool) (eng : ℕ) (p : Pairing) → cond t None (Some (combination_with eng p)) ≡ combination_under eng (cond t None (Some p))
+row_left true eng p = refl
+row_left false eng p = refl
 
-pub apart_pair_rest : (rows : List (Row Combination)) (n lots gone eng : ℕ) (p : Pairing) → lookup rows n ≡ Some (combination_with eng p) → Apart rows → Apart (combination_rest n lots gone (combination_with eng p) rows)
-apart_pair_rest rows n lots gone eng p s a =
-    ⊎_elim (λ t. let freed : combination_rest n lots gone (combination_with eng p) rows ≡ removed rows n = cond-true _ _ _ t in subst (λ rs. Apart rs) (sym freed) (apart_removed rows n a))
-    (λ t. let rest : combination_rest n lots gone (combination_with eng p) rows ≡ changed rows n (combination_with (eng - gone) (pair_lots (p.lots - lots) p)) = cond-false _ _ _ t in
-    subst (λ rs. Apart rs) (sym rest) (apart_changed rows n (combination_with (eng - gone) (pair_lots (p.lots - lots) p)) a))
-    (cases_Bool (leb p.lots lots))
+pub apart_pair_rest : (rows : List (Row Combination)) (n lots gone eng : ℕ) (p : Pairing) → Apart rows → Apart (combination_rest n lots gone (combination_with eng p) rows)
+apart_pair_rest rows n lots gone eng p a = apart_rest (leb p.lots lots) rows n (combination_with (eng - gone) (pair_lots (p.lots - lots) p)) a
 
 pub some_left : (lots : ℕ) (p : Pairing) → lots < p.lots → pairing_less lots p ≡ Some (pair_lots (p.lots - lots) p)
 some_left lots p h =
@@ -112,7 +100,8 @@ pub rows_less : (rows : List (Row Combination)) (es : List (Entry Pairing)) (nex
     (n ≡ k → eng - gone ≡ now) → ((n ≡ k → ⊥) → lookup rows k ≡ combination_under now (under es k)) → lookup (combination_rest n lots gone (combination_with eng p) rows) k ≡ combination_under now (under (put n (pairing_less lots p) es) k)
 rows_less rows es next n lots gone k eng now p a found s st here else =
     let after = under_put es next n k (pairing_less lots p) p s st in
-    lookup_pair_rest rows n lots gone k eng p a found ∙
+    lookup_rest (leb p.lots lots) rows n k (combination_with (eng - gone) (pair_lots (p.lots - lots) p)) (combination_with eng p) a found ∙
+    ap (λ z. cond (eqb n k) z (lookup rows k)) (row_left (leb p.lots lots) (eng - gone) (pair_lots (p.lots - lots) p)) ∙
     ⊎_elim
     (λ e. cond-true _ _ _ (eq-eqb _ _ e) ∙ ap (λ z. combination_under z (pairing_less lots p)) (here e) ∙ ap (combination_under now) (sym (after ∙ cond-true _ _ _ (eq-eqb _ _ e))))
     (λ ne. cond-false _ _ _ (ne_eqb _ _ ne) ∙ else ne ∙ ap (combination_under now) (sym (after ∙ cond-false _ _ _ (ne_eqb _ _ ne))))
@@ -120,18 +109,15 @@ rows_less rows es next n lots gone k eng now p a found s st here else =
 
 -- Legs --------------------------------------------------------------------------------------------
 
-not_below_itself : (k : ℕ) → ltb k k ≡ true → ⊥
-not_below_itself k p = let h : k < k = ltb-true k k p in omega arith
-
 -- no contract fits itself
 self_fit : (s : Strategy) (r : Right) (k : ℕ) → (rights_fit s r r && strikes_fit s k k) ≡ true → ⊥
-self_fit BullCallSpread r k p = not_below_itself k (and_parts (rights_fit BullCallSpread r r) (ltb k k) p).1
-self_fit BearCallSpread r k p = not_below_itself k (and_parts (rights_fit BearCallSpread r r) (ltb k k) p).1
-self_fit BullPutSpread r k p = not_below_itself k (and_parts (rights_fit BullPutSpread r r) (ltb k k) p).1
-self_fit BearPutSpread r k p = not_below_itself k (and_parts (rights_fit BearPutSpread r r) (ltb k k) p).1
+self_fit BullCallSpread r k p = both_ways _ (le-ltb k k (omega arith)) (and_parts (rights_fit BullCallSpread r r) (ltb k k) p).1
+self_fit BearCallSpread r k p = both_ways _ (le-ltb k k (omega arith)) (and_parts (rights_fit BearCallSpread r r) (ltb k k) p).1
+self_fit BullPutSpread r k p = both_ways _ (le-ltb k k (omega arith)) (and_parts (rights_fit BullPutSpread r r) (ltb k k) p).1
+self_fit BearPutSpread r k p = both_ways _ (le-ltb k k (omega arith)) (and_parts (rights_fit BearPutSpread r r) (ltb k k) p).1
 self_fit ShortStraddle Call k p = let z : ◌≡◌ {A = ℕ} 0 1 = cc in omega arith
 self_fit ShortStraddle Put k p = let z : ◌≡◌ {A = ℕ} 0 1 = cc in omega arith
-self_fit ShortStrangle r k p = not_below_itself k (and_parts (rights_fit ShortStrangle r r) (ltb k k) p).1
+self_fit ShortStrangle r k p = both_ways _ (le-ltb k k (omega arith)) (and_parts (rights_fit ShortStrangle r r) (ltb k k) p).1
 
 pub legs_apart : (cs : List Contract) (p : Pairing) → Fitted cs p → p.first ≡ p.second → ⊥
 legs_apart cs p f e =

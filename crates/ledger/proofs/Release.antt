@@ -76,8 +76,8 @@ module _ (m : Meaning) (l : Ledger) (b : Tables) (law : Law m l b) (n lots : ℕ
   unlocked_lots : AllLots l' unlocked
   unlocked_lots =
       let q = first_unlocked (first_written p.strategy) lots (position_of b a p.first) in
-      lots_moved_twice l l' b a p.first p.second fitted.first fitted.second (unlock_first p.strategy lots) (unlocking_written lots) law.sound.count law.sound.position_rows sound.account.0 sound.account.1
-      fitted.first_listed fitted.second_listed (λ e. two.apart (sym e)) law.beside.lots
+      lots_moved_twice l l' b a p.first fitted.first (unlock_first p.strategy lots) law.sound.count law.sound.position_rows sound.account.0 sound.account.1 fitted.first_listed law.beside.lots
+      p.second fitted.second (unlocking_written lots) fitted.second_listed (λ e. two.apart (sym e))
       (record {
         bought = q.bought ∙ lot.bought;
         written = q.written ∙ lot.written;
@@ -116,7 +116,7 @@ module _ (m : Meaning) (l : Ledger) (b : Tables) (law : Law m l b) (n lots : ℕ
     lots = unlocked_lots;
     found = λ j. rows_less b.combinations ps l.next_combination n lots 0 j (engaged l n) (engaged l j) p law.sound.combination_rows row_found law.sound.combination_numbers stands
         (λ e. omega (arith, ap (engaged l) e)) (λ ne. law.beside.combinations j);
-    apart = apart_pair_rest b.combinations n lots 0 (engaged l n) p row_found law.sound.combination_rows;
+    apart = apart_pair_rest b.combinations n lots 0 (engaged l n) p law.sound.combination_rows;
     numbers = numbers_put ps l.next_combination n (pairing_less lots p) law.sound.combination_numbers;
     next_is = law.beside.next_combination;
     last = law.sound.last_combination;
