@@ -1,14 +1,14 @@
 -- Deposit and withdraw keep the law.
-use Rattle.std.proofs.Common.{◌≡◌, ℕ, ◌+◌, ◌-◌, ◌^◌, ◌≤◌, Ok, Err, sym, refl, subst, arith}
+use Rattle.std.proofs.Common.{◌≡◌, ℕ, ◌+◌, ◌-◌, ◌^◌, ◌≤◌, sym, refl, subst, arith}
 use Rattle.std.proofs.lemmas.Bool.{ltb-false}
+use Rattle.ledger.specs.declared.call.Call.TheVariants as call
 use Rattle.ledger.specs.declared.tables.Tables.{Tables}
 use Rattle.margin.specs.Meaning.{Meaning}
 use Rattle.ledger.specs.Ledger.{Ledger, cash_in, cash_out}
-use Rattle.ledger.specs.CashRules.{deposit_tests, withdraw_tests}
+use Rattle.ledger.specs.CashRules.{deposit_tests, withdraw_tests, DepositRule, WithdrawRule}
 use Rattle.ledger.specs.Moves.{funds_to}
 use Rattle.ledger.specs.Runs.{Law}
-use Rattle.ledger.proofs.Stays.{DepositStays, WithdrawStays}
-use Rattle.ledger.proofs.Tests.{refused_keeps, unmet}
+use Rattle.ledger.proofs.Tests.{Stays, unmet}
 use Rattle.ledger.proofs.Moved.{all_alike}
 
 -- balance and cash total move together, and nothing else
@@ -49,17 +49,15 @@ cash_moved m l b balance cash came went law sum total most = record {
   };
 }
 
-pub deposit_stays : DepositStays
-deposit_stays m b amount l (Err e) after law h = refused_keeps law h.1
-deposit_stays m b amount l (Ok x) after law h =
+pub deposit_stays : (m : Meaning) (b : Tables) (amount : ℕ) → Stays m b (call.Deposit amount) (DepositRule b amount)
+deposit_stays m b amount l x after law h =
     let u = unmet (deposit_tests b amount) h.0 in
     let most : b.funds.cash + amount ≤ 10 ^ 17 = ltb-false (10 ^ 17) (b.funds.cash + amount) u.1.0 in
     subst (λ z. Law m (cash_in amount l) z) (sym h.1.0)
     (cash_moved m l b (b.funds.balance + amount) (b.funds.cash + amount) (l.came_in + amount) l.went_out law (omega (arith, law.beside.sum)) (omega (arith, law.beside.cash)) most)
 
-pub withdraw_stays : WithdrawStays
-withdraw_stays m b amount l (Err e) after law h = refused_keeps law h.1
-withdraw_stays m b amount l (Ok x) after law h =
+pub withdraw_stays : (m : Meaning) (b : Tables) (amount : ℕ) → Stays m b (call.Withdraw amount) (WithdrawRule b amount)
+withdraw_stays m b amount l x after law h =
     let u = unmet (withdraw_tests b amount) h.0 in
     let enough : amount ≤ b.funds.balance = ltb-false b.funds.balance amount u.1.0 in
     subst (λ z. Law m (cash_out amount l) z) (sym h.1.0)

@@ -1,5 +1,5 @@
 -- Combine keeps the law.
-use Rattle.std.proofs.Common.{◌≡◌, ℕ, ◌+◌, ◌-◌, ◌*◌, ◌^◌, ◌<◌, ◌≤◌, Bool, true, false, cond, eqb, List, ◌∷◌, Some, None, Ok, Err, Option, sym, refl, ap, ◌∙◌, subst, ⊎_elim, arith}
+use Rattle.std.proofs.Common.{◌≡◌, ℕ, ◌+◌, ◌-◌, ◌*◌, ◌^◌, ◌<◌, ◌≤◌, Bool, true, false, cond, eqb, List, ◌∷◌, Some, None, Option, sym, refl, ap, ◌∙◌, subst, ⊎_elim, arith}
 use Rattle.register.specs.Numbers.{next_of, moved_on}
 use Rattle.std.proofs.lemmas.List.{length-set}
 use Rattle.std.proofs.lemmas.Bool.{ltb-false, cond-true, cond-false, cases_eq, eq-eqb, ne_eqb, or_parts, not-false}
@@ -11,6 +11,7 @@ use Rattle.margin.specs.declared.contract.Contract.{Contract}
 use Rattle.margin.specs.declared.strategy.Strategy.{Strategy}
 use Rattle.margin.specs.Fits.{fits}
 use Rattle.margin.specs.Strategies.{first_written}
+use Rattle.ledger.specs.declared.call.Call.TheVariants as call
 use Rattle.ledger.specs.declared.order.Order.{Order}
 use Rattle.ledger.specs.declared.order.OrderKind.{OrderKind}
 use Rattle.ledger.specs.declared.order.OrderKind.TheVariants.{SellOpen, BuyOpen, BuyClose, SellClose, LegClose}
@@ -21,12 +22,11 @@ use Rattle.ledger.specs.Ledger.{Ledger, Entry, under, combined}
 use Rattle.ledger.specs.Content.{Pairing}
 use Rattle.ledger.specs.Law.{Lots, contracts_of, position_of, when, written_claim, bought_claim, in_combinations, claimed_bought, claimed_written, engages, engaged, combination_under}
 use Rattle.ledger.specs.Moves.{at, lock_first, locking_written, free_first, free_written, free_bought}
-use Rattle.ledger.specs.CombinationRules.{margins_moved, fit_together, combine_tests}
+use Rattle.ledger.specs.CombinationRules.{margins_moved, fit_together, combine_tests, CombineRule}
 use Rattle.ledger.specs.Runs.{Law, LegOf, LegStands, Fitted, SoundCombination}
 use Rattle.ledger.specs.Amounts.{pair_per_lot, legs_per_lot, pair_margin}
 use Rattle.margin.specs.Strategies.{strategy_of}
-use Rattle.ledger.proofs.Stays.{CombineStays}
-use Rattle.ledger.proofs.Tests.{refused_keeps, unmet, within, met_of, stands_as, unmet_at}
+use Rattle.ledger.proofs.Tests.{Stays, unmet, within, met_of, stands_as, unmet_at}
 use Rattle.ledger.proofs.Entries.{weighed_cons, weighed_none, under_above, under_parts, under_within}
 use Rattle.ledger.proofs.Moved.{AllLots, lots_moved_twice}
 use Rattle.ledger.proofs.Pairings.{combination_with}
@@ -178,9 +178,8 @@ module _ (m : Meaning) (l : Ledger) (b : Tables) (law : Law m l b) (p : Pairing)
       enough = enough;
     })
 
-pub combine_stays : CombineStays
-combine_stays m b a strategy first second lots l (Err e) after law h = refused_keeps law h.1
-combine_stays m b a strategy first second lots l (Ok x) after law h =
+pub combine_stays : (m : Meaning) (b : Tables) (a strategy first second lots : ℕ) → Stays m b (call.Combine a strategy first second lots) (CombineRule m b a strategy first second lots)
+combine_stays m b a strategy first second lots l x after law h =
     let u = unmet (combine_tests m b (strategy_of strategy) a first second lots) h.0 in
     let met = met_of (strategy_of strategy) _ (not-false _ u.1.1.1.0) in
     let s : Strategy = met.0 in

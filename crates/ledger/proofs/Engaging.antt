@@ -1,5 +1,5 @@
 -- A leg close keeps the law.
-use Rattle.std.proofs.Common.{◌≡◌, ℕ, ◌+◌, ◌-◌, ◌*◌, ◌^◌, ◌≤◌, true, eqb, List, Some, Ok, Err, Option, sym, refl, ap, ◌∙◌, subst, ⊎_elim, arith}
+use Rattle.std.proofs.Common.{◌≡◌, ℕ, ◌+◌, ◌-◌, ◌*◌, ◌^◌, ◌≤◌, true, eqb, List, Some, Ok, Option, sym, refl, ap, ◌∙◌, subst, ⊎_elim, arith}
 use Rattle.register.specs.Numbers.{next_of}
 use Rattle.std.proofs.lemmas.Bool.{ltb-false, cases_eq, cond-true, cond-false, eq-eqb, ne_eqb, or_parts, not-false}
 use Rattle.margin.specs.ByCode.{by_code}
@@ -22,12 +22,11 @@ use Rattle.ledger.specs.OrderRules.{OrderTaken}
 use Rattle.ledger.specs.CombinationRules.{written_leg, leg_close_tests, LegCloseRule}
 use Rattle.ledger.specs.Moves.{combinations_to}
 use Rattle.ledger.specs.Runs.{Law}
-use Rattle.ledger.proofs.Stays.{Stays}
-use Rattle.ledger.proofs.Tests.{refused_keeps, unmet, within, some_of, some_same, stands_as, unmet_at}
+use Rattle.ledger.proofs.Tests.{Stays, unmet, within, some_of, some_same, stands_as, unmet_at}
 use Rattle.ledger.proofs.Entries.{weighed_cons}
 use Rattle.ledger.proofs.Moved.{all_alike}
 use Rattle.ledger.proofs.Entering.{entered_keeps}
-use Rattle.ledger.proofs.Pairings.{combination_with, row_parts}
+use Rattle.ledger.proofs.Pairings.{combination_with, row_of, combination_at}
 
 -- engaged lots of a row that are more
 pub row_engaged : (rows : List (Row Combination)) (n k eng now later : ℕ) (p : Pairing) (o : Option Pairing) →
@@ -50,7 +49,7 @@ module _ (m : Meaning) (b : Tables) (n code lots limit : ℕ) where
   engaged_keeps l p c r after law stands is some_lots priced leg free enough number taken =
       let o : Order = record { account = p.account; kind = LegClose n code; lots = lots; limit = limit } in
       let l' : Ledger = order_entered o l in
-      let found : lookup b.combinations n ≡ Some (combination_with (engaged l n) p) = law.beside.combinations n ∙ ap (combination_under (engaged l n)) stands in
+      let found = row_of law n p stands in
       let more : (k : ℕ) → engaged l' k ≡ when (eqb n k) lots + engaged l k = λ k. weighed_cons (λ (z : Order). engages k z z.kind) l.next_order o l.orders in
       let here : (k : ℕ) → n ≡ k → engaged l' k ≡ engaged l n + lots = λ k e. omega (arith, more k, cond-true _ lots 0 (eq-eqb n k e), ap (engaged l) e) in
       let else : (k : ℕ) → (n ≡ k → ⊥) → engaged l' k ≡ engaged l k = λ k ne. omega (arith, more k, cond-false _ lots 0 (ne_eqb n k ne)) in
@@ -74,19 +73,15 @@ module _ (m : Meaning) (b : Tables) (n code lots limit : ℕ) where
       taken
 
   pub leg_close_stays : Stays m b (call.LegClose n code lots limit) (LegCloseRule m b n code lots limit)
-  leg_close_stays l (Err e) after law h = refused_keeps law h.1
-  leg_close_stays l (Ok x) after law h =
+  leg_close_stays l x after law h =
       let k : Option Combination = lookup b.combinations n in
       let u = unmet (leg_close_tests m b k code lots limit) h.0 in
       let c = some_of (by_code (contracts_of b) code) u.0 in
-      let y = some_of k u.1.1.1.0 in
-      let q = row_parts (engaged l n) (under l.combinations n) y.0 (sym (law.beside.combinations n) ∙ y.1) in
+      let q = combination_at law n u.1.1.1.0 in
       let p : Pairing = q.0 in
-      let stands : under l.combinations n ≡ Some p = q.1.0 in
-      let found : k ≡ Some (combination_with (engaged l n) p) = y.1 ∙ ap Some q.1.1 in
-      let legged = unmet_at _ found u.1.1.1.1.0 in
-      let free = unmet_at _ found u.1.1.1.1.1.0 in
-      let enough = unmet_at _ found u.1.1.1.1.1.1.0 in
-      subst (λ z. Law m (order_entered (record { account = account_of z; kind = LegClose n code; lots = lots; limit = limit }) l) after) (sym stands)
-      (engaged_keeps l p c.0 (Ok x) after law stands c.1 (within 1 1000 lots u.1.0) (within 1 (10 ^ 7) limit u.1.1.0)
-      (not-false _ (or_parts _ _ legged).1) (ltb-false _ _ free) (ltb-false _ _ enough) (ltb-false (2 ^ 32 - 1) (next_of b.order_series) u.1.1.1.1.1.1.1.1.0) (stands_as _ found h.1))
+      let legged = unmet_at _ q.2 u.1.1.1.1.0 in
+      let free = unmet_at _ q.2 u.1.1.1.1.1.0 in
+      let enough = unmet_at _ q.2 u.1.1.1.1.1.1.0 in
+      subst (λ z. Law m (order_entered (record { account = account_of z; kind = LegClose n code; lots = lots; limit = limit }) l) after) (sym q.1)
+      (engaged_keeps l p c.0 (Ok x) after law q.1 c.1 (within 1 1000 lots u.1.0) (within 1 (10 ^ 7) limit u.1.1.0)
+      (not-false _ (or_parts _ _ legged).1) (ltb-false _ _ free) (ltb-false _ _ enough) (ltb-false (2 ^ 32 - 1) (next_of b.order_series) u.1.1.1.1.1.1.1.1.0) (stands_as _ q.2 h.1))

@@ -1,5 +1,5 @@
 -- A call that is accepted is one that the ledger can take.
-use Rattle.std.proofs.Common.{◌≡◌, ℕ, ◌-◌, ◌≤◌, cond, ◌&&◌, eqb, [], ◌∷◌, Some, Ok, Err, Option, sym, refl, ap, ◌∙◌, subst, ⊎_elim, arith}
+use Rattle.std.proofs.Common.{◌≡◌, ℕ, ◌-◌, ◌≤◌, cond, ◌&&◌, eqb, [], ◌∷◌, Some, Ok, Option, sym, refl, subst, ⊎_elim, arith}
 use Rattle.std.proofs.lemmas.Bool.{ltb-false, cond-true, eq-eqb, not-false}
 use Rattle.register.specs.Rows.{lookup}
 use Rattle.ledger.specs.declared.call.Call.{Call}
@@ -14,14 +14,14 @@ use Rattle.margin.specs.Strategies.{strategy_of}
 use Rattle.ledger.specs.Ledger.{Ledger, under}
 use Rattle.ledger.specs.Content.{Pairing}
 use Rattle.ledger.specs.Law.{Lots, contracts_of, position_of, engaged, engages, closes_written, closes_bought, written_claim}
-use Rattle.ledger.specs.Tests.{Answer, Standing, is_none}
+use Rattle.ledger.specs.Tests.{Standing, is_none}
 use Rattle.ledger.specs.FillRules.{fill_tests}
 use Rattle.ledger.specs.CombinationRules.{release_tests, leg_close_tests, combine_tests}
-use Rattle.ledger.specs.Runs.{Law, ByTheRules, Accepted, Enterable, Fillable, LegOf, SoundOrder, SoundCombination}
+use Rattle.ledger.specs.Runs.{Law, ByTheRules, Enterable, Fillable, LegOf, SoundOrder, SoundCombination}
 use Rattle.ledger.proofs.Codes.{one_here}
 use Rattle.ledger.proofs.Entries.{weighed_part}
-use Rattle.ledger.proofs.Tests.{unmet, some_of, met_of, unmet_at}
-use Rattle.ledger.proofs.Pairings.{combination_with, row_parts, leg_parts}
+use Rattle.ledger.proofs.Tests.{unmet, met_of, unmet_at}
+use Rattle.ledger.proofs.Pairings.{leg_parts, combination_at, order_at}
 use Rattle.ledger.proofs.Claims.{two_legs}
 
 standing_at : {T : Type 0} {o : Option T} {x : T} (P : T → Type 0) → o ≡ Some x → P x → Standing o P
@@ -65,7 +65,7 @@ module _ (m : Meaning) (l : Ledger) (b : Tables) (law : Law m l b) where
         (leg_parts p c g.leg) in
         (subst (λ z. lots ≤ l.written z c) g.account owned, standing_at (λ (z : Pairing). lots ≤ z.lots) g.stands few)
 
-by_acceptance : (m : Meaning) (b : Tables) (c : Call) (l : Ledger) (x : ℕ × ℕ) (after : Tables) → Law m l b → ByTheRules m b c (Ok x) after → Enterable c l
+pub by_acceptance : (m : Meaning) (b : Tables) (c : Call) (l : Ledger) (x : ℕ × ℕ) (after : Tables) → Law m l b → ByTheRules m b c (Ok x) after → Enterable c l
 by_acceptance m b (call.Deposit amount) l x after law h = tt
 by_acceptance m b (call.Withdraw amount) l x after law h = tt
 by_acceptance m b (call.SellOpen account contract lots limit) l x after law h = tt
@@ -75,28 +75,24 @@ by_acceptance m b (call.SellClose account contract lots limit) l x after law h =
 by_acceptance m b (call.LegClose n code lots limit) l x after law h =
     let k : Option Combination = lookup b.combinations n in
     let u = unmet (leg_close_tests m b k code lots limit) h.0 in
-    let y = some_of k u.1.1.1.0 in
-    let q = row_parts (engaged l n) (under l.combinations n) y.0 (sym (law.beside.combinations n) ∙ y.1) in
+    let q = combination_at law n u.1.1.1.0 in
     let p : Pairing = q.0 in
-    let found : k ≡ Some (combination_with (engaged l n) p) = y.1 ∙ ap Some q.1.1 in
-    let free = unmet_at _ found u.1.1.1.1.1.0 in
+    let free = unmet_at _ q.2 u.1.1.1.1.1.0 in
     let few : lots ≤ p.lots - engaged l n = ltb-false _ _ free in
-    standing_at (λ (z : Pairing). lots ≤ z.lots) q.1.0 (omega arith)
+    standing_at (λ (z : Pairing). lots ≤ z.lots) q.1 (omega arith)
 by_acceptance m b (call.Fill n lots price) l x after law h =
     let o : Option Order = lookup b.orders n in
     let u = unmet (fill_tests m b o lots price) h.0 in
-    let y = some_of o u.1.1.0 in
-    let z : Order = y.0 in
-    let found : o ≡ Some z = y.1 in
-    let stands : under l.orders n ≡ Some z = sym (law.beside.orders n) ∙ found in
-    let enough = unmet_at _ found u.1.1.1.0 in
+    let q = order_at law n u.1.1.0 in
+    let z : Order = q.0 in
+    let enough = unmet_at _ q.2 u.1.1.1.0 in
     let few : lots ≤ z.lots = ltb-false _ _ enough in
-    standing_at (λ (w : Order). (lots ≤ w.lots) × Fillable l w.account lots w.kind) stands (few, fillable m l b law n lots z.kind z.account z.lots z.limit stands few)
+    standing_at (λ (w : Order). (lots ≤ w.lots) × Fillable l w.account lots w.kind) q.1 (few, fillable m l b law n lots z.kind z.account z.lots z.limit q.1 few)
 by_acceptance m b (call.Cancel n) l x after law h =
     let o : Option Order = lookup b.orders n in
     let u = unmet ((16, is_none o) ∷ []) h.0 in
-    let y = some_of o u.0 in
-    (y.0, sym (law.beside.orders n) ∙ y.1)
+    let q = order_at law n u.0 in
+    (q.0, q.1)
 by_acceptance m b (call.Combine a strategy first second lots) l x after law h =
     let u = unmet (combine_tests m b (strategy_of strategy) a first second lots) h.0 in
     let met = met_of (strategy_of strategy) _ (not-false _ u.1.1.1.0) in
@@ -104,14 +100,8 @@ by_acceptance m b (call.Combine a strategy first second lots) l x after law h =
 by_acceptance m b (call.Release n lots) l x after law h =
     let k : Option Combination = lookup b.combinations n in
     let u = unmet (release_tests m b k lots) h.0 in
-    let y = some_of k u.1.0 in
-    let q = row_parts (engaged l n) (under l.combinations n) y.0 (sym (law.beside.combinations n) ∙ y.1) in
+    let q = combination_at law n u.1.0 in
     let p : Pairing = q.0 in
-    let found : k ≡ Some (combination_with (engaged l n) p) = y.1 ∙ ap Some q.1.1 in
-    let free = unmet_at _ found u.1.1.0 in
+    let free = unmet_at _ q.2 u.1.1.0 in
     let few : lots ≤ p.lots - engaged l n = ltb-false _ _ free in
-    standing_at (λ (z : Pairing). lots ≤ z.lots) q.1.0 (omega arith)
-
-pub accepted_enterable : (m : Meaning) (b : Tables) (c : Call) (l : Ledger) (r : Answer) (after : Tables) → Law m l b → ByTheRules m b c r after → Accepted r (Enterable c l)
-accepted_enterable m b c l (Ok x) after law h = by_acceptance m b c l x after law h
-accepted_enterable m b c l (Err e) after law h = tt
+    standing_at (λ (z : Pairing). lots ≤ z.lots) q.1 (omega arith)

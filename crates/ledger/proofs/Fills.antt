@@ -1,9 +1,10 @@
 -- Fill and cancel keep the law.
-use Rattle.std.proofs.Common.{◌≡◌, ℕ, ◌+◌, ◌-◌, ◌*◌, ◌^◌, ◌≤◌, false, cond, ◌&&◌, eqb, ltb, List, [], ◌∷◌, Some, None, Ok, Err, Option, sym, refl, ap, ◌∙◌, subst, arith}
+use Rattle.std.proofs.Common.{◌≡◌, ℕ, ◌+◌, ◌-◌, ◌*◌, ◌^◌, ◌≤◌, false, cond, ◌&&◌, eqb, ltb, List, [], ◌∷◌, Some, None, Option, sym, refl, ap, ◌∙◌, subst, arith}
 use Rattle.std.proofs.lemmas.Bool.{ltb-false, cond-true, cond-false, eq-eqb, ne_eqb}
 use Rattle.register.specs.declared.row.Row.{Row}
 use Rattle.register.specs.Rows.{lookup, changed}
 use Rattle.register.proofs.After.{apart_changed}
+use Rattle.ledger.specs.declared.call.Call.TheVariants as call
 use Rattle.ledger.specs.declared.order.Order.{Order}
 use Rattle.ledger.specs.declared.order.OrderKind.{OrderKind}
 use Rattle.ledger.specs.declared.order.OrderKind.TheVariants.{SellOpen, BuyOpen, BuyClose, SellClose, LegClose}
@@ -16,27 +17,23 @@ use Rattle.ledger.specs.Content.{Pairing, sells, contract_of}
 use Rattle.ledger.specs.Law.{contracts_of, reserve, engaged, engages, combination_under, closes_written, closes_bought, when}
 use Rattle.ledger.specs.Amounts.{leg_close_reserve}
 use Rattle.ledger.specs.Tests.{is_none}
-use Rattle.ledger.specs.FillRules.{traded, leg_traded, freed, disengaged, reserve_per_lot, leg_reserve, fill_funds, filled_funds, flow, leg_flow, fill_tests}
+use Rattle.ledger.specs.FillRules.{traded, leg_traded, freed, disengaged, reserve_per_lot, leg_reserve, fill_funds, filled_funds, flow, leg_flow, fill_tests, FillRule, CancelRule}
 use Rattle.ledger.specs.Moves.{order_rest, orders_to, funds_to, combinations_to, combination_rest, at, writing, buying, closing_bought, closing_written, unlocking_bought, unlocking_written}
 use Rattle.ledger.specs.Runs.{Law, LegOf}
-use Rattle.ledger.proofs.Stays.{FillStays, CancelStays}
-use Rattle.ledger.proofs.Tests.{refused_keeps, unmet, some_of, stands_as, unmet_at}
+use Rattle.ledger.proofs.Tests.{Stays, unmet, stands_as, unmet_at}
 use Rattle.ledger.proofs.Shares.{all_gone, all_freed}
 use Rattle.ledger.proofs.Codes.{one_here}
 use Rattle.ledger.proofs.Covered.{flow_covered}
 use Rattle.ledger.proofs.Leaving.{left, left_tables, Part, engaged_left}
 use Rattle.ledger.proofs.Plain.{returned, stays, freed as unlocked, opened, closed, moving_keeps, still_keeps}
 use Rattle.ledger.proofs.Engaging.{row_engaged}
-use Rattle.ledger.proofs.Pairings.{combination_with}
+use Rattle.ledger.proofs.Pairings.{combination_with, row_of, order_at}
 use Rattle.ledger.proofs.Others.{OtherLeg, other_of}
 use Rattle.ledger.proofs.LegFill.{leg_close_filled}
 
 module _ (m : Meaning) (l : Ledger) (b : Tables) (law : Law m l b) (n : ℕ) where
   abbrev made : ℕ → OrderKind → ℕ → ℕ → Order
   made a kind lots limit = record { account = a; kind = kind; lots = lots; limit = limit }
-
-  row_found : (k : ℕ) (p : Pairing) → under l.combinations k ≡ Some p → lookup b.combinations k ≡ Some (combination_with (engaged l k) p)
-  row_found k p stands = law.beside.combinations k ∙ ap (combination_under (engaged l k)) stands
 
   -- Fills -----------------------------------------------------------------------------------------
 
@@ -64,7 +61,7 @@ module _ (m : Meaning) (l : Ledger) (b : Tables) (law : Law m l b) (n : ℕ) whe
         = leg_close_filled m l b law n k c lots price whole limit p stands part leg cheap in
         let law₂ : Law m known (leg_traded m b o k c lots price (rest o) (Some (combination_with (engaged l k) p)))
         = subst (λ z. Law m known (filled_up z)) (sym (leg.unlocked (engaged l k) (at p.account c (closing_written lots) (rest o)))) law' in
-        let law₃ : Law m known (tables_then o) = subst (λ z. Law m known (leg_traded m b o k c lots price (rest o) z)) (sym (row_found k p stands)) law₂ in
+        let law₃ : Law m known (tables_then o) = subst (λ z. Law m known (leg_traded m b o k c lots price (rest o) z)) (sym (row_of law k p stands)) law₂ in
         subst (λ z. Law m (cash_out premium (written_to (fewer p.account c lots l.written) (combination_less k lots z before))) (tables_then o)) (sym stands) law₃
 
     filled_as : (kind : OrderKind) (a whole limit : ℕ) → Part l n lots (made a kind whole limit) → cond (sells kind) (ltb price limit) (ltb limit price) ≡ false →
@@ -73,54 +70,38 @@ module _ (m : Meaning) (l : Ledger) (b : Tables) (law : Law m l b) (n : ℕ) whe
     filled_as (SellOpen c) a whole limit part priced cashed =
         moving_keeps m l b law n lots (made a (SellOpen c) whole limit) part (flow m b (SellOpen c) limit lots price) _ _ l.bought (more a c lots l.written) (writing lots) 0 0 0 lots (record {
           covered = flow_covered m b limit lots price (SellOpen c) priced;
-          came_is = refl;
-          went_is = omega arith;
           cash_most = omega (arith, law.beside.cash, ltb-false (10 ^ 17) (b.funds.cash + lots * price * unit_of (by_code (contracts_of b) c)) cashed);
           unengaged = λ k. refl;
-          reserve_is = refl;
+          funds = (omega arith, omega arith, omega arith, omega arith, omega arith);
           bought_side = stays refl;
           written_side = opened lots (one_here a c lots 0) refl;
-          back_is = omega arith;
-          taken_is = omega arith;
         })
     filled_as (BuyOpen c) a whole limit part priced cashed =
         moving_keeps m l b law n lots (made a (BuyOpen c) whole limit) part (flow m b (BuyOpen c) limit lots price) _ _ (more a c lots l.bought) l.written (buying lots) 0 lots 0 0 (record {
           covered = flow_covered m b limit lots price (BuyOpen c) priced;
-          came_is = omega arith;
-          went_is = refl;
           cash_most = omega (arith, law.sound.cash);
           unengaged = λ k. refl;
-          reserve_is = refl;
+          funds = (omega arith, omega arith, omega arith, omega arith, omega arith);
           bought_side = opened lots (one_here a c lots 0) refl;
           written_side = stays refl;
-          back_is = omega arith;
-          taken_is = omega arith;
         })
     filled_as (BuyClose c) a whole limit part priced cashed =
         moving_keeps m l b law n lots (made a (BuyClose c) whole limit) part (flow m b (BuyClose c) limit lots price) _ _ l.bought (fewer a c lots l.written) (closing_written lots) 0 0 lots 0 (record {
           covered = flow_covered m b limit lots price (BuyClose c) priced;
-          came_is = omega arith;
-          went_is = refl;
           cash_most = omega (arith, law.sound.cash);
           unengaged = λ k. refl;
-          reserve_is = refl;
+          funds = (omega arith, omega arith, omega arith, omega arith, omega arith);
           bought_side = stays refl;
           written_side = closed lots (one_here a c lots 0);
-          back_is = omega arith;
-          taken_is = omega arith;
         })
     filled_as (SellClose c) a whole limit part priced cashed =
         moving_keeps m l b law n lots (made a (SellClose c) whole limit) part (flow m b (SellClose c) limit lots price) _ _ (fewer a c lots l.bought) l.written (closing_bought lots) lots 0 0 0 (record {
           covered = flow_covered m b limit lots price (SellClose c) priced;
-          came_is = refl;
-          went_is = omega arith;
           cash_most = omega (arith, law.beside.cash, ltb-false (10 ^ 17) (b.funds.cash + lots * price * unit_of (by_code (contracts_of b) c)) cashed);
           unengaged = λ k. refl;
-          reserve_is = omega arith;
+          funds = (omega arith, omega arith, omega arith, omega arith, omega arith);
           bought_side = closed lots (one_here a c lots 0);
           written_side = stays refl;
-          back_is = omega arith;
-          taken_is = omega arith;
         })
     filled_as (LegClose k c) a whole limit part priced cashed =
         let g : LegOf l.combinations a k c = (law.sound.orders n (made a (LegClose k c) whole limit) part.stands).leg in
@@ -149,35 +130,27 @@ module _ (m : Meaning) (l : Ledger) (b : Tables) (law : Law m l b) (n : ℕ) whe
   cancelled_as (BuyClose c) a lots limit part =
       moving_keeps m l b law n lots (made a (BuyClose c) lots limit) part (returned (lots * (limit * unit_of (by_code (contracts_of b) c)))) _ _ l.bought l.written (unlocking_written lots) 0 0 0 0 (record {
         covered = omega arith;
-        came_is = omega arith;
-        went_is = omega arith;
         cash_most = omega (arith, law.sound.cash);
         unengaged = λ k. refl;
-        reserve_is = refl;
+        funds = (omega arith, omega arith, omega arith, omega arith, omega arith);
         bought_side = stays refl;
         written_side = unlocked lots (one_here a c lots 0);
-        back_is = omega arith;
-        taken_is = omega arith;
       })
   cancelled_as (SellClose c) a lots limit part =
       moving_keeps m l b law n lots (made a (SellClose c) lots limit) part (returned (lots * 0)) _ _ l.bought l.written (unlocking_bought lots) 0 0 0 0 (record {
         covered = omega arith;
-        came_is = omega arith;
-        went_is = omega arith;
         cash_most = omega (arith, law.sound.cash);
         unengaged = λ k. refl;
-        reserve_is = refl;
+        funds = (omega arith, omega arith, omega arith, omega arith, omega arith);
         bought_side = unlocked lots (one_here a c lots 0);
         written_side = stays refl;
-        back_is = omega arith;
-        taken_is = omega arith;
       })
   cancelled_as (LegClose k c) a lots limit part =
       let o : Order = made a (LegClose k c) lots limit in
       let g : LegOf l.combinations a k c = (law.sound.orders n o part.stands).leg in
       let p : Pairing = g.combination in
       let l' : Ledger = left l n lots o l.came_in l.went_out l.bought l.written l.combinations in
-      let found : lookup b.combinations k ≡ Some (combination_with (engaged l k) p) = row_found k p g.stands in
+      let found : lookup b.combinations k ≡ Some (combination_with (engaged l k) p) = row_of law k p g.stands in
       let less : (j : ℕ) → engaged l' j + when (eqb k j) lots ≡ engaged l j = λ j. engaged_left m l b law n lots o part j in
       subst (λ z. Law m l' (funds_to (fill_funds (lots * leg_reserve m b c limit z) 0 0 0 0 b.funds) (disengaged b k lots (orders_to (order_rest n lots o b.orders) b.order_series b) z))) (sym found)
       (still_keeps m l b law n lots o part (lots * leg_close_reserve m (contracts_of b) c limit (Some p)) (changed b.combinations k (combination_with (engaged l k - lots) p))
@@ -187,33 +160,27 @@ module _ (m : Meaning) (l : Ledger) (b : Tables) (law : Law m l b) (n : ℕ) whe
       (λ ne. law.beside.combinations j ∙ ap (λ z. combination_under z (under l.combinations j)) (omega (arith, less j, cond-false _ lots 0 (ne_eqb k j ne)))))
       (apart_changed b.combinations k (combination_with (engaged l k - lots) p) law.sound.combination_rows))
 
-pub fill_stays : FillStays
-fill_stays m b n lots price l (Err e) after law h = refused_keeps law h.1
-fill_stays m b n lots price l (Ok x) after law h =
+pub fill_stays : (m : Meaning) (b : Tables) (n lots price : ℕ) → Stays m b (call.Fill n lots price) (FillRule m b n lots price)
+fill_stays m b n lots price l x after law h =
     let o : Option Order = lookup b.orders n in
     let u = unmet (fill_tests m b o lots price) h.0 in
-    let y = some_of o u.1.1.0 in
-    let z : Order = y.0 in
-    let found : o ≡ Some z = y.1 in
-    let stands : under l.orders n ≡ Some z = sym (law.beside.orders n) ∙ found in
-    let enough = unmet_at _ found u.1.1.1.0 in
-    let taken' = stands_as _ found h.1 in
-    subst (λ w. Law m (filled (contracts_of b) n w lots price l) after) (sym stands)
+    let q = order_at law n u.1.1.0 in
+    let z : Order = q.0 in
+    let enough = unmet_at _ q.2 u.1.1.1.0 in
+    let taken' = stands_as _ q.2 h.1 in
+    subst (λ w. Law m (filled (contracts_of b) n w lots price l) after) (sym q.1)
     (subst (λ w. Law m (filled (contracts_of b) n (Some z) lots price l) w) (sym taken'.0)
-    (filled_as m l b law n lots price z.kind z.account z.lots z.limit (record { stands = stands; within = ltb-false _ _ enough }) (unmet_at _ found u.1.1.1.1.0) (unmet_at _ found u.1.1.1.1.1.1.0)))
+    (filled_as m l b law n lots price z.kind z.account z.lots z.limit (record { stands = q.1; within = ltb-false _ _ enough }) (unmet_at _ q.2 u.1.1.1.1.0) (unmet_at _ q.2 u.1.1.1.1.1.1.0)))
 
-pub cancel_stays : CancelStays
-cancel_stays m b n l (Err e) after law h = refused_keeps law h.1
-cancel_stays m b n l (Ok x) after law h =
+pub cancel_stays : (m : Meaning) (b : Tables) (n : ℕ) → Stays m b (call.Cancel n) (CancelRule m b n)
+cancel_stays m b n l x after law h =
     let o : Option Order = lookup b.orders n in
     let u = unmet ((16, is_none o) ∷ []) h.0 in
-    let y = some_of o u.0 in
-    let z : Order = y.0 in
-    let found : o ≡ Some z = y.1 in
-    let stands : under l.orders n ≡ Some z = sym (law.beside.orders n) ∙ found in
-    let taken' = stands_as _ found h.1 in
+    let q = order_at law n u.0 in
+    let z : Order = q.0 in
+    let taken' = stands_as _ q.2 h.1 in
     let law' : Law m (ledger_orders_to (put n (order_less z.lots z) l.orders) l) (cancelled_then m l b law n z (order_rest n z.lots z b.orders))
-    = cancelled_as m l b law n z.kind z.account z.lots z.limit (record { stands = stands; within = omega arith }) in
+    = cancelled_as m l b law n z.kind z.account z.lots z.limit (record { stands = q.1; within = omega arith }) in
     let law₂ : Law m (ledger_orders_to (put n None l.orders) l) (cancelled_then m l b law n z (order_rest n z.lots z b.orders))
     = subst (λ w. Law m (ledger_orders_to (put n w l.orders) l) (cancelled_then m l b law n z (order_rest n z.lots z b.orders))) (all_gone z) law' in
     subst (λ w. Law m (ledger_orders_to (put n None l.orders) l) w) (sym taken'.0)

@@ -24,7 +24,7 @@ use Rattle.ledger.proofs.Moved.{AllLots, lots_moved_twice}
 use Rattle.ledger.proofs.Leaving.{left, left_tables, Part, left_keeps, closes_written_left, closes_bought_left, engaged_left, reserves_left, legs_left}
 use Rattle.ledger.proofs.Covered.{leg_covered}
 use Rattle.ledger.proofs.Codes.{at_one, one_here, one_else}
-use Rattle.ledger.proofs.Pairings.{combination_with, pair_lots, pairs_less, written_claim_by, bought_claim_by, pair_margin_by, rows_less, sound_less, apart_pair_rest, pair_less_parts}
+use Rattle.ledger.proofs.Pairings.{combination_with, row_of, pair_lots, pairs_less, written_claim_by, bought_claim_by, pair_margin_by, rows_less, sound_less, apart_pair_rest, pair_less_parts}
 use Rattle.ledger.proofs.Legs.{NamedStays, leg_stays, reserve_stays, less_stays}
 use Rattle.ledger.proofs.Others.{OtherLeg}
 
@@ -157,11 +157,8 @@ module _ (m : Meaning) (l : Ledger) (b : Tables) (law : Law m l b) (n k c lots p
           reserves_left m l b law n lots order part,
         )
 
-    found : lookup b.combinations k ≡ Some (combination_with (engaged l k) p)
-    found = law.beside.combinations k ∙ ap (combination_under (engaged l k)) stands
-
     rows_left : (j : ℕ) → lookup (combination_rest k lots lots (combination_with (engaged l k) p) b.combinations) j ≡ combination_under (engaged l' j) (under es j)
-    rows_left j = rows_less b.combinations ps l.next_combination k lots lots j (engaged l k) (engaged l' j) p law.sound.combination_rows found law.sound.combination_numbers stands
+    rows_left j = rows_less b.combinations ps l.next_combination k lots lots j (engaged l k) (engaged l' j) p law.sound.combination_rows (row_of law k p stands) law.sound.combination_numbers stands
         (λ e. omega (arith, less_engaged j, cond-true (eqb k j) lots 0 (eq-eqb k j e), ap (engaged l) e))
         (λ ne. law.beside.combinations j ∙ ap (λ z. combination_under z (under ps j)) (omega (arith, less_engaged j, cond-false (eqb k j) lots 0 (ne_eqb k j ne))))
 

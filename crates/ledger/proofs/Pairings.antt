@@ -12,14 +12,18 @@ use Rattle.margin.specs.Strategies.{first_written}
 use Rattle.register.specs.declared.row.Row.{Row}
 use Rattle.register.specs.Rows.{lookup, Apart}
 use Rattle.ledger.specs.declared.order.Combination.{Combination}
+use Rattle.ledger.specs.declared.order.Order.{Order}
+use Rattle.ledger.specs.declared.tables.Tables.{Tables}
 use Rattle.margin.specs.Meaning.{Meaning}
-use Rattle.ledger.specs.Ledger.{Entry, under, put, pairing_less}
+use Rattle.ledger.specs.Ledger.{Ledger, Entry, under, put, pairing_less}
 use Rattle.ledger.specs.Content.{Pairing}
-use Rattle.ledger.specs.Law.{when, written_claim, bought_claim, combination_under}
+use Rattle.ledger.specs.Law.{when, written_claim, bought_claim, combination_under, engaged}
+use Rattle.ledger.specs.Tests.{is_none}
 use Rattle.ledger.specs.Moves.{combination_rest}
 use Rattle.ledger.specs.CombinationRules.{written_leg}
-use Rattle.ledger.specs.Runs.{Numbers, Fitted, SoundCombination}
+use Rattle.ledger.specs.Runs.{Law, Numbers, Fitted, SoundCombination}
 use Rattle.ledger.specs.Amounts.{pair_margin}
+use Rattle.ledger.proofs.Tests.{some_of}
 use Rattle.ledger.proofs.Entries.{weighed, under_put}
 use Rattle.ledger.proofs.Lessened.{weighed_lessened, lessened_parts, lookup_rest, apart_rest}
 use Rattle.ledger.proofs.Shares.{when_split, split_mul}
@@ -31,7 +35,7 @@ pair_lots k p = record { account = p.account; strategy = p.strategy; first = p.f
 abbrev pub combination_with : ℕ → Pairing → Combination
 combination_with eng p = record { account = p.account; strategy = p.strategy; first = p.first; second = p.second; lots = p.lots; engaged = eng }
 
-pub row_parts : (eng : ℕ) (o : Option Pairing) (x : Combination) → combination_under eng o ≡ Some x → (p : Pairing) × ((o ≡ Some p) × (x ≡ combination_with eng p))
+row_parts : (eng : ℕ) (o : Option Pairing) (x : Combination) → combination_under eng o ≡ Some x → (p : Pairing) × ((o ≡ Some p) × (x ≡ combination_with eng p))
 row_parts eng (Some p) x e = (p, (refl, cc))
 row_parts eng None x e = let z : ◌≡◌ {A = ℕ} 0 1 = cc in absurd (omega arith)
 
@@ -130,3 +134,20 @@ legs_apart cs p f e =
 pub leg_parts : (p : Pairing) (code : ℕ) → written_leg p code ≡ true → (p.second ≡ code) ⊎ ((first_written p.strategy ≡ true) × (p.first ≡ code))
 leg_parts p code h =
     ⊎_elim (λ e. inl (eqb-true _ _ e)) (λ e. let q = and_parts _ _ e in inr (q.0, eqb-true _ _ q.1)) (or_cases _ _ h)
+
+-- A book and its ledger ---------------------------------------------------------------------------
+
+module _ {m : Meaning} {l : Ledger} {b : Tables} (law : Law m l b) (n : ℕ) where
+  pub row_of : (p : Pairing) → under l.combinations n ≡ Some p → lookup b.combinations n ≡ Some (combination_with (engaged l n) p)
+  row_of p stands = law.beside.combinations n ∙ ap (combination_under (engaged l n)) stands
+
+  -- the combination under a number where the book has one, and its row
+  pub combination_at : is_none (lookup b.combinations n) ≡ false → (p : Pairing) × (under l.combinations n ≡ Some p) × (lookup b.combinations n ≡ Some (combination_with (engaged l n) p))
+  combination_at t =
+      let y = some_of (lookup b.combinations n) t in
+      let q = row_parts (engaged l n) (under l.combinations n) y.0 (sym (law.beside.combinations n) ∙ y.1) in
+      (q.0, q.1.0, y.1 ∙ ap Some q.1.1)
+
+  -- and the order
+  pub order_at : is_none (lookup b.orders n) ≡ false → (o : Order) × (under l.orders n ≡ Some o) × (lookup b.orders n ≡ Some o)
+  order_at t = let y = some_of (lookup b.orders n) t in (y.0, sym (law.beside.orders n) ∙ y.1, y.1)

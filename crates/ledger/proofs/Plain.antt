@@ -84,15 +84,12 @@ module _ (m : Meaning) (l : Ledger) (b : Tables) (law : Law m l b) (n lots : ℕ
   -- what is to be shown where the order's position moves
   pub record Moving (w : Flow) (came went : ℕ) (bought written : ℕ → ℕ → ℕ) (move : Position → Position) (off on out come : ℕ) : Type 0 where
     pub covered : Covers w
-    pub came_is : came ≡ l.came_in + w.received
-    pub went_is : went ≡ l.went_out + w.paid
     pub cash_most : cash_total l + w.received ≤ 10 ^ 17 + w.paid
     pub unengaged : (k : ℕ) → engages k gone o.kind ≡ 0
-    pub reserve_is : w.reserve ≡ lots * reserve m cs l.combinations o.kind o.limit
+    pub funds : (came ≡ l.came_in + w.received) × (went ≡ l.went_out + w.paid) × (w.reserve ≡ lots * reserve m cs l.combinations o.kind o.limit)
+        × (w.back ≡ out * leg_margin_of m (by_code cs c)) × (w.taken ≡ come * leg_margin_of m (by_code cs c))
     pub bought_side : Side a c l.bought bought off on (opens_bought a c gone o.kind) (closes_bought a c gone o.kind) p.bought (move p).bought p.locked_bought (move p).locked_bought
     pub written_side : Side a c l.written written out come (opens_written a c gone o.kind) (closes_written a c gone o.kind) p.written (move p).written p.locked_written (move p).locked_written
-    pub back_is : w.back ≡ out * leg_margin_of m (by_code cs c)
-    pub taken_is : w.taken ≡ come * leg_margin_of m (by_code cs c)
 
   pub moving_keeps : (w : Flow) (came went : ℕ) (bought written : ℕ → ℕ → ℕ) (move : Position → Position) (off on out come : ℕ) → Moving w came went bought written move off on out come →
       Law m (left l n lots o came went bought written l.combinations) (left_tables b n lots o (at a c move b).positions b.combinations (filled_funds w b.funds))
@@ -114,8 +111,8 @@ module _ (m : Meaning) (l : Ledger) (b : Tables) (law : Law m l b) (n lots : ℕ
       let free = times_both (written a c - in_combinations l a c) out (l.written a c - in_combinations l a c) come (m.leg C) (omega (arith, W, ws.closed, cw a c, lot.written_free)) in
       left_keeps m l b law n lots o part w came went bought written l.combinations (at a c move b).positions b.combinations (record {
         covered = s.covered;
-        came_is = s.came_is;
-        went_is = s.went_is;
+        came_is = s.funds.0;
+        went_is = s.funds.1;
         cash_most = s.cash_most;
         rows = length-set b.positions (position_row b a c) (move p) ∙ law.sound.position_rows;
         lots_are = lots_moved l l' b a c C move law.sound.count law.sound.position_rows fit.account.0 fit.account.1 is law.beside.lots
@@ -135,8 +132,8 @@ module _ (m : Meaning) (l : Ledger) (b : Tables) (law : Law m l b) (n lots : ℕ
         sound = law.sound.combinations;
         engaged_most = λ k q h. omega (arith, engaged_still k, law.sound.engaged_most k q h);
         legs = legs_left m l b law n lots o part;
-        held = omega (arith, law.beside.held, sums, free, s.back_is ∙ ap (λ z. out * leg_margin_of m z) is, s.taken_is ∙ ap (λ z. come * leg_margin_of m z) is);
-        reserved = omega (arith, reserves_left m l b law n lots o part, s.reserve_is);
+        held = omega (arith, law.beside.held, sums, free, s.funds.3 ∙ ap (λ z. out * leg_margin_of m z) is, s.funds.4 ∙ ap (λ z. come * leg_margin_of m z) is);
+        reserved = omega (arith, reserves_left m l b law n lots o part, s.funds.2);
         written_most = at_one (λ x y. written x y ≤ l.written x y + opens_written x y gone o.kind) a c (omega (arith, W, ws.opened)) (λ x y far. omega (arith, ws.else x y far));
         bought_most = at_one (λ x y. bought x y ≤ l.bought x y + opens_bought x y gone o.kind) a c (omega (arith, B, bs.opened)) (λ x y far. omega (arith, bs.else x y far));
       })

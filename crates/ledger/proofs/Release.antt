@@ -1,10 +1,11 @@
 -- Release keeps the law.
-use Rattle.std.proofs.Common.{◌≡◌, ℕ, ◌+◌, ◌-◌, ◌*◌, ◌<◌, ◌≤◌, List, Some, Ok, Err, Option, sym, refl, ap, ◌∙◌, subst, ⊎_elim, arith}
+use Rattle.std.proofs.Common.{◌≡◌, ℕ, ◌+◌, ◌-◌, ◌*◌, ◌<◌, ◌≤◌, List, Some, Option, sym, refl, ap, ◌∙◌, subst, ⊎_elim, arith}
 use Rattle.std.proofs.lemmas.List.{length-set}
 use Rattle.std.proofs.lemmas.Bool.{ltb-false, cond-true, eq-eqb}
 use Rattle.register.specs.Rows.{lookup}
 use Rattle.margin.specs.declared.contract.Contract.{Contract}
 use Rattle.margin.specs.Strategies.{first_written}
+use Rattle.ledger.specs.declared.call.Call.TheVariants as call
 use Rattle.ledger.specs.declared.order.Order.{Order}
 use Rattle.ledger.specs.declared.order.OrderKind.TheVariants.{LegClose}
 use Rattle.ledger.specs.declared.order.Combination.{Combination}
@@ -12,16 +13,15 @@ use Rattle.ledger.specs.declared.tables.Tables.{Tables}
 use Rattle.margin.specs.Meaning.{Meaning}
 use Rattle.ledger.specs.Ledger.{Ledger, Entry, under, put, pairing_less, combination_less}
 use Rattle.ledger.specs.Content.{Pairing}
-use Rattle.ledger.specs.Law.{Lots, contracts_of, position_of, written_claim, bought_claim, in_combinations, claimed_bought, claimed_written, engages, engaged, combination_under}
+use Rattle.ledger.specs.Law.{Lots, contracts_of, position_of, written_claim, bought_claim, in_combinations, claimed_bought, claimed_written, engages, engaged}
 use Rattle.ledger.specs.Moves.{at, unlock_first, unlocking_written, combination_rest}
-use Rattle.ledger.specs.CombinationRules.{released, release_tests}
+use Rattle.ledger.specs.CombinationRules.{released, release_tests, ReleaseRule}
 use Rattle.ledger.specs.Runs.{Law, Fitted, SoundCombination}
 use Rattle.ledger.specs.Amounts.{pair_per_lot, legs_per_lot, pair_margin}
-use Rattle.ledger.proofs.Stays.{ReleaseStays}
-use Rattle.ledger.proofs.Tests.{refused_keeps, unmet, within, some_of, stands_as, unmet_at}
+use Rattle.ledger.proofs.Tests.{Stays, unmet, within, stands_as, unmet_at}
 use Rattle.ledger.proofs.Entries.{weighed_part, numbers_put}
 use Rattle.ledger.proofs.Moved.{AllLots, lots_moved_twice}
-use Rattle.ledger.proofs.Pairings.{combination_with, row_parts, pair_lots, pairs_less, written_claim_by, bought_claim_by, pair_margin_by, rows_less, sound_less, apart_pair_rest, pair_less_parts}
+use Rattle.ledger.proofs.Pairings.{combination_with, row_of, combination_at, pair_lots, pairs_less, written_claim_by, bought_claim_by, pair_margin_by, rows_less, sound_less, apart_pair_rest, pair_less_parts}
 use Rattle.ledger.proofs.Legs.{less_stays}
 use Rattle.ledger.proofs.Claims.{TwoLegs, two_legs, held_between, first_unlocked}
 use Rattle.ledger.proofs.Regrouping.{regrouped, regrouped_keeps}
@@ -101,9 +101,6 @@ module _ (m : Meaning) (l : Ledger) (b : Tables) (law : Law m l b) (n lots : ℕ
         claimed_written = omega (arith, less_written x y, two.written_else x y nf ns);
       })
 
-  row_found : lookup b.combinations n ≡ Some (combination_with (engaged l n) p)
-  row_found = law.beside.combinations n ∙ ap (combination_under (engaged l n)) stands
-
   -- an order that names the combination leaves lots of it
   rest_named : (j : ℕ) (x : Order) (y : ℕ) → under l.orders j ≡ Some x → x.kind ≡ LegClose n y → lots < p.lots
   rest_named j x y s e =
@@ -114,7 +111,7 @@ module _ (m : Meaning) (l : Ledger) (b : Tables) (law : Law m l b) (n lots : ℕ
   ungrouped_keeps = regrouped_keeps m l b law es l.next_combination unlocked.positions (combination_rest n lots 0 (combination_with (engaged l n) p) b.combinations) b.combination_series _ _ (record {
     rows = length-set _ _ _ ∙ length-set _ _ _ ∙ law.sound.position_rows;
     lots = unlocked_lots;
-    found = λ j. rows_less b.combinations ps l.next_combination n lots 0 j (engaged l n) (engaged l j) p law.sound.combination_rows row_found law.sound.combination_numbers stands
+    found = λ j. rows_less b.combinations ps l.next_combination n lots 0 j (engaged l n) (engaged l j) p law.sound.combination_rows (row_of law n p stands) law.sound.combination_numbers stands
         (λ e. omega (arith, ap (engaged l) e)) (λ ne. law.beside.combinations j);
     apart = apart_pair_rest b.combinations n lots 0 (engaged l n) p law.sound.combination_rows;
     numbers = numbers_put ps l.next_combination n (pairing_less lots p) law.sound.combination_numbers;
@@ -129,19 +126,15 @@ module _ (m : Meaning) (l : Ledger) (b : Tables) (law : Law m l b) (n lots : ℕ
     enough = enough;
   })
 
-pub release_stays : ReleaseStays
-release_stays m b n lots l (Err e) after law h = refused_keeps law h.1
-release_stays m b n lots l (Ok x) after law h =
+pub release_stays : (m : Meaning) (b : Tables) (n lots : ℕ) → Stays m b (call.Release n lots) (ReleaseRule m b n lots)
+release_stays m b n lots l x after law h =
     let k : Option Combination = lookup b.combinations n in
     let u = unmet (release_tests m b k lots) h.0 in
-    let y = some_of k u.1.0 in
-    let q = row_parts (engaged l n) (under l.combinations n) y.0 (sym (law.beside.combinations n) ∙ y.1) in
+    let q = combination_at law n u.1.0 in
     let p : Pairing = q.0 in
-    let stands : under l.combinations n ≡ Some p = q.1.0 in
-    let found : k ≡ Some (combination_with (engaged l n) p) = y.1 ∙ ap Some q.1.1 in
-    let free = unmet_at _ found u.1.1.0 in
-    let enough = unmet_at _ found u.1.1.1.0 in
-    let taken = stands_as _ found h.1 in
-    subst (λ z. Law m (combination_less n lots z l) after) (sym stands)
+    let free = unmet_at _ q.2 u.1.1.0 in
+    let enough = unmet_at _ q.2 u.1.1.1.0 in
+    let taken = stands_as _ q.2 h.1 in
+    subst (λ z. Law m (combination_less n lots z l) after) (sym q.1)
     (subst (λ z. Law m (combination_less n lots (Some p) l) z) (sym taken.0)
-    (ungrouped_keeps m l b law n lots p stands (within 1 1000 lots u.0).0 (ltb-false _ _ free) (ltb-false _ _ enough)))
+    (ungrouped_keeps m l b law n lots p q.1 (within 1 1000 lots u.0).0 (ltb-false _ _ free) (ltb-false _ _ enough)))

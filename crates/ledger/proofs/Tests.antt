@@ -1,11 +1,13 @@
 -- The tests of the rules, where none is met.
-use Rattle.std.proofs.Common.{◌≡◌, ℕ, ◌≤◌, Bool, true, false, cond, ltb, List, [], ◌∷◌, ◌++◌, Some, None, Option, sym, refl, ◌∙◌, subst, arith}
+use Rattle.std.proofs.Common.{◌≡◌, ℕ, ◌≤◌, Bool, true, false, cond, ltb, List, [], ◌∷◌, ◌++◌, Some, None, Ok, Option, refl, ◌∙◌, subst, arith}
 use Rattle.std.proofs.lemmas.Bool.{cond-false, or_parts, or_from, le-ltb, ltb-false}
+use Rattle.ledger.specs.declared.call.Call.{Call}
 use Rattle.ledger.specs.declared.tables.Tables.{Tables}
 use Rattle.margin.specs.Meaning.{Meaning}
-use Rattle.ledger.specs.Ledger.{Ledger}
+use Rattle.ledger.specs.Ledger.{Ledger, entered}
+use Rattle.ledger.specs.Law.{contracts_of}
 use Rattle.ledger.specs.Runs.{Law}
-use Rattle.ledger.specs.Tests.{first_met, outside, is_none, Standing, meets}
+use Rattle.ledger.specs.Tests.{Answer, first_met, outside, is_none, Standing, meets}
 
 none_met : (n : ℕ) (t : Bool) (xs : List (ℕ × Bool)) → first_met ((n, t) ∷ xs) ≡ None → (t ≡ false) × (first_met xs ≡ None)
 none_met n true xs p = let z : ◌≡◌ {A = ℕ} 0 1 = cc in absurd (omega arith)
@@ -37,9 +39,9 @@ pub met_back : (xs ys : List (ℕ × Bool)) → first_met xs ≡ None → first_
 met_back [] ys e = refl
 met_back (x ∷ xs) ys e = let q = none_met x.0 x.1 xs e in cond-false x.1 (Some x.0) (first_met (xs ++ ys)) q.0 ∙ met_back xs ys q.1
 
--- a call that is refused changes nothing
-pub refused_keeps : {m : Meaning} {l : Ledger} {b after : Tables} → Law m l b → after ≡ b → Law m l after
-refused_keeps {m = m} {l = l} law e = subst (λ z. Law m l z) (sym e) law
+-- what is shown of each call first: accepted, it leaves the law
+abbrev pub Stays : Meaning → Tables → Call → (Answer → Tables → Type 0) → Type 0
+Stays m b c rule = (l : Ledger) (x : ℕ × ℕ) (after : Tables) → Law m l b → rule (Ok x) after → Law m (entered (contracts_of b) c l) after
 
 pub within : (low high x : ℕ) → outside low high x ≡ false → (low ≤ x) × (x ≤ high)
 within low high x p = let q = or_parts _ _ p in (ltb-false _ _ q.0, ltb-false _ _ q.1)
