@@ -95,7 +95,7 @@ impl Book {
             return Err(Refusal::NotListed);
         };
         check_lots(lots)?;
-        let Some(strategy) = Strategy::from_number(strategy) else {
+        let Ok(strategy) = Strategy::try_from(strategy) else {
             return Err(Refusal::LegsDoNotFit);
         };
         let Some(pair) = FittedPair::fit(strategy, &one.contract, &other.contract) else {

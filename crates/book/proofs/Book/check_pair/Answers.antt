@@ -26,11 +26,11 @@ returns-in_err-check_lots c =
     let p = err_from_is_err_and c.from_residual-in_err-check_lots.result c.from_residual-in_err-check_lots.ensures.1 in
     rw (p.1, p.2) (record { tests = t; named = tt; ranges = tt })
 
-pub returns-in_default-from_number : goal.returns-in_default-from_number
-returns-in_default-from_number c = record { tests = no_strategy c.args.self.now.tables c.args.account c.args.first c.args.second c.args.lots c.in_ok-check_account.ensures c.in-Some.one.contract c.in-Some.ensures.0 c.in-Some-find.other.contract c.in-Some-find.ensures.0 c.in_ok-check_lots.ensures (strategy_of c.args.strategy) c.in_default-from_number.ensures.is; named = tt; ranges = tt }
+pub returns-in_default-try_from : goal.returns-in_default-try_from
+returns-in_default-try_from c = record { tests = no_strategy c.args.self.now.tables c.args.account c.args.first c.args.second c.args.lots c.in_ok-check_account.ensures c.in-Some.one.contract c.in-Some.ensures.0 c.in-Some-find.other.contract c.in-Some-find.ensures.0 c.in_ok-check_lots.ensures (strategy_of c.args.strategy) (sym c.in_default-try_from.ensures.0); named = tt; ranges = tt }
 
 pub returns-in_default-fit : goal.returns-in_default-fit
-returns-in_default-fit c = record { tests = not_fitted c.args.self.now.tables c.args.account c.args.first c.args.second c.args.lots c.in_ok-check_account.ensures c.in-Some.one.contract c.in-Some.ensures.0 c.in-Some-find.other.contract c.in-Some-find.ensures.0 c.in_ok-check_lots.ensures (strategy_of c.args.strategy) c.in-Some-from_number.strategy c.in-Some-from_number.ensures.is c.in_default-fit.ensures; named = tt; ranges = tt }
+returns-in_default-fit c = record { tests = not_fitted c.args.self.now.tables c.args.account c.args.first c.args.second c.args.lots c.in_ok-check_account.ensures c.in-Some.one.contract c.in-Some.ensures.0 c.in-Some-find.other.contract c.in-Some-find.ensures.0 c.in_ok-check_lots.ensures (strategy_of c.args.strategy) c.in-Ok.strategy (sym c.in-Ok.ensures.0) c.in_default-fit.ensures; named = tt; ranges = tt }
 
 pub returns : goal.returns
 returns c =
@@ -38,7 +38,7 @@ returns c =
     let account = account_within c.args.account c.in_ok-check_account.ensures in
     let lots = lots_within c.args.lots c.in_ok-check_lots.ensures in
     record {
-      tests = fitted c.args.self.now.tables c.args.account c.args.first c.args.second c.args.lots c.in_ok-check_account.ensures c.in-Some.one.contract c.in-Some.ensures.0 c.in-Some-find.other.contract c.in-Some-find.ensures.0 c.in_ok-check_lots.ensures (strategy_of c.args.strategy) c.in-Some-from_number.strategy c.in-Some-from_number.ensures.is fit.0;
-      named = record { strategy = sym c.in-Some-from_number.ensures.is ∙ ap Some (sym fit.1); first = c.in-Some.ensures.0 ∙ ap Some (sym fit.2); second = c.in-Some-find.ensures.0 ∙ ap Some (sym fit.3) };
+      tests = fitted c.args.self.now.tables c.args.account c.args.first c.args.second c.args.lots c.in_ok-check_account.ensures c.in-Some.one.contract c.in-Some.ensures.0 c.in-Some-find.other.contract c.in-Some-find.ensures.0 c.in_ok-check_lots.ensures (strategy_of c.args.strategy) c.in-Ok.strategy (sym c.in-Ok.ensures.0) fit.0;
+      named = record { strategy = c.in-Ok.ensures.0 ∙ ap Some (sym fit.1); first = c.in-Some.ensures.0 ∙ ap Some (sym fit.2); second = c.in-Some-find.ensures.0 ∙ ap Some (sym fit.3) };
       ranges = (account.0, account.1, lots.0, lots.1);
     }
