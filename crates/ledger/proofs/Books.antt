@@ -2,7 +2,9 @@
 use Rattle.std.proofs.Common.{◌≡◌, ℕ, ◌+◌, true, false, cond, eqb, ◌⊎◌, List, [], ◌∷◌, map, Some, None, Option, sym, refl, ap, ◌∙◌, subst, ap₂, inl, inr, ⊎_elim, arith}
 use Rattle.std.specs.List.Sorted.{IsPermutation}
 use Rattle.std.proofs.lemmas.List.Sorted.{IsPermutation-refl, IsPermutation-sym, IsPermutation-cons, IsPermutation-swap, IsPermutation-trans}
-use Rattle.std.proofs.lemmas.Bool.{cases_eq, cases_lt, cond-true, cond-false, eq-eqb, ne_eqb}
+use Rattle.std.proofs.lemmas.Option.{none-some}
+use Rattle.std.proofs.lemmas.Bool.Decides.{nat_tests}
+use Rattle.std.proofs.lemmas.Bool.{cases_eq, cond-true, cond-false, eq-eqb, ne_eqb}
 use Rattle.register.specs.declared.row.Row.{Row}
 use Rattle.register.specs.Rows.{lookup, freed, removed, Apart}
 use Rattle.register.proofs.After.{stands_is, found_number, found_parts, absent_parts, replaced_here, replaced_later, lookup_removed, apart_removed}
@@ -35,7 +37,7 @@ module _ {T X : Type 0} (seen : T → X) where
 
   -- one entry in use, taken to the front
   out : (rs : List (Row T)) (n : ℕ) (x : T) → lookup rs n ≡ Some x → IsPermutation (shown rs) (seen x ∷ shown (removed rs n))
-  out [] n x p = let z : ◌≡◌ {A = ℕ} 0 1 = cc in absurd (omega arith)
+  out [] n x p = absurd cc
   out (r ∷ rs) n x p =
       let nn : n ≡ 0 → ⊥ = found_number (r ∷ rs) n x p in
       ⊎_elim
@@ -63,7 +65,7 @@ module _ {T X : Type 0} (seen : T → X) where
       ⊎_elim
       (λ z. ap (map seen) (unused r rs z) ∙ none_used rs (λ n. (absent_parts r rs n (h n)).1))
       (λ nz. let one : true ≡ false = sym (stands_is r r.number nz refl) ∙ (absent_parts r rs r.number (h r.number)).0 in
-      let z : ◌≡◌ {A = ℕ} 0 1 = cc in absurd (omega arith))
+      absurd cc)
       (cases_eq r.number 0)
 
   -- rows that find, under each number, what stands there
@@ -138,15 +140,10 @@ module _ (m : Meaning) (l : Ledger) (b : Tables) (law : Law m l b) where
 
 listed_or_not : (o : Option Contract) → ((c : Contract) × (o ≡ Some c)) ⊎ (((c : Contract) × (o ≡ Some c)) → ⊥)
 listed_or_not (Some c) = inl (c, refl)
-listed_or_not None = inr (λ q. let e : ◌≡◌ {A = Option Contract} None (Some q.0) = q.1 in let z : ◌≡◌ {A = ℕ} 0 1 = cc in absurd (omega arith))
+listed_or_not None = inr (λ q. none-some q.0 q.1)
 
 on_or_off : (cs : List Contract) (a code : ℕ) → OnTheBook cs a code ⊎ (OnTheBook cs a code → ⊥)
-on_or_off cs a code =
-    ⊎_elim (λ low. inr (λ q. omega (arith, low, q.0)))
-    (λ low. ⊎_elim (λ high. inr (λ q. omega (arith, high, q.1)))
-    (λ high. ⊎_elim (λ is. inl (low, high, is)) (λ isnt. inr (λ q. isnt q.2)) (listed_or_not (by_code cs code)))
-    (cases_lt 8 a))
-    (cases_lt a 1)
+on_or_off cs a code = let listed = listed_or_not (by_code cs code) in grind (arith, nat_tests)
 
 pub same_books_balance : SameBooksBalance
 same_books_balance m n b d kept kept' meaning contracts same =

@@ -1,6 +1,6 @@
 -- What a combination claims of its two legs, and of nothing else; and what margin held comes to where its lots come in or go.
-use Rattle.std.proofs.Common.{◌≡◌, ℕ, ◌+◌, ◌-◌, ◌*◌, ◌≤◌, Bool, true, false, cond, ◌&&◌, eqb, List, Some, sym, refl, ap, ◌∙◌, subst, ⊎_elim, arith}
-use Rattle.std.proofs.lemmas.Bool.{cases_eq, cond-true, cond-false, cond_both, eq-eqb, ne_eqb, and_right}
+use Rattle.std.proofs.Common.{◌≡◌, ℕ, ◌+◌, ◌-◌, ◌*◌, ◌≤◌, Bool, true, false, cond, List, Some, refl, ap, ◌∙◌, arith}
+use Rattle.std.proofs.lemmas.Bool.Decides.{nat_tests}
 use Rattle.margin.specs.ByCode.{by_code}
 use Rattle.margin.specs.declared.contract.Contract.{Contract}
 use Rattle.margin.specs.Strategies.{first_written}
@@ -28,45 +28,17 @@ pub record TwoLegs (p : Pairing) (n : ℕ) : Type 0 where
   pub written_else : (x y : ℕ) → ((x ≡ p.account) × (y ≡ p.first) → ⊥) → ((x ≡ p.account) × (y ≡ p.second) → ⊥) → written_claim x y (pair_lots n p) ≡ 0
   pub bought_else : (x y : ℕ) → ((x ≡ p.account) × (y ≡ p.first) → ⊥) → bought_claim x y (pair_lots n p) ≡ 0
 
--- a claim, by whether each leg is meant
-written_is : (p : Pairing) (lots y : ℕ) → written_claim p.account y (pair_lots lots p) ≡ when (first_written p.strategy && eqb p.first y) lots + when (eqb p.second y) lots
-written_is p lots y = cond-true _ _ _ (eq-eqb p.account p.account refl)
-
-bought_is : (p : Pairing) (lots y : ℕ) → bought_claim p.account y (pair_lots lots p) ≡ cond (first_written p.strategy) 0 (when (eqb p.first y) lots)
-bought_is p lots y = cond-true _ _ _ (eq-eqb p.account p.account refl)
-
-written_nowhere : (p : Pairing) (lots x y : ℕ) → ((x ≡ p.account) × (y ≡ p.first) → ⊥) → ((x ≡ p.account) × (y ≡ p.second) → ⊥) → written_claim x y (pair_lots lots p) ≡ 0
-written_nowhere p lots x y nf ns =
-    ⊎_elim
-    (λ e. let one : when (first_written p.strategy && eqb p.first y) lots ≡ 0 = cond-false _ lots 0 (and_right _ _ (ne_eqb _ _ (λ v. nf (sym e, sym v)))) in
-    let two : when (eqb p.second y) lots ≡ 0 = cond-false _ lots 0 (ne_eqb _ _ (λ v. ns (sym e, sym v))) in
-    subst (λ z. written_claim z y (pair_lots lots p) ≡ 0) e (omega (arith, written_is p lots y, one, two)))
-    (λ ne. cond-false _ _ _ (ne_eqb _ _ ne))
-    (cases_eq p.account x)
-
-bought_nowhere : (p : Pairing) (lots x y : ℕ) → ((x ≡ p.account) × (y ≡ p.first) → ⊥) → bought_claim x y (pair_lots lots p) ≡ 0
-bought_nowhere p lots x y nf =
-    ⊎_elim
-    (λ e. subst (λ z. bought_claim z y (pair_lots lots p) ≡ 0) e
-    (bought_is p lots y ∙ ap (λ z. cond (first_written p.strategy) 0 z) (cond-false _ lots 0 (ne_eqb _ _ (λ v. nf (sym e, sym v)))) ∙ cond_both (first_written p.strategy) 0 0 (λ z. z ≡ 0) (λ _. refl) (λ _. refl)))
-    (λ ne. cond-false _ _ _ (ne_eqb _ _ ne))
-    (cases_eq p.account x)
-
-first_claim : (t u : Bool) (n : ℕ) → u ≡ true → when (t && u) n ≡ when t n
-first_claim true u n e = cond-true u n 0 e
-first_claim false u n e = refl
-
 pub two_legs : (cs : List Contract) (p : Pairing) (lots : ℕ) → Fitted cs p → TwoLegs p lots
 two_legs cs p lots fitted =
     let differ = legs_apart cs p fitted in
     record {
       apart = differ;
-      written_first = omega (arith, written_is p lots p.first, first_claim (first_written p.strategy) (eqb p.first p.first) lots (eq-eqb p.first p.first refl), cond-false (eqb p.second p.first) lots 0 (ne_eqb _ _ (λ e. differ (sym e))));
-      bought_first = bought_is p lots p.first ∙ ap (λ z. cond (first_written p.strategy) 0 z) (cond-true (eqb p.first p.first) lots 0 (eq-eqb p.first p.first refl));
-      written_second = omega (arith, written_is p lots p.second, cond-false (first_written p.strategy && eqb p.first p.second) lots 0 (and_right _ _ (ne_eqb _ _ differ)), cond-true (eqb p.second p.second) lots 0 (eq-eqb p.second p.second refl));
-      bought_second = bought_nowhere p lots p.account p.second (λ q. differ (sym q.1));
-      written_else = written_nowhere p lots;
-      bought_else = bought_nowhere p lots;
+      written_first = grind (arith, nat_tests);
+      bought_first = grind (arith, nat_tests);
+      written_second = grind (arith, nat_tests);
+      bought_second = grind (arith, nat_tests);
+      written_else = λ x y nf ns. grind (arith, nat_tests);
+      bought_else = λ x y nf. grind (arith, nat_tests);
     }
 
 -- the first leg locked and unlocked on its side

@@ -1,7 +1,6 @@
 -- Contracts by code, and the position rows by account and code.
-use Rattle.std.proofs.Common.{◌≡◌, ℕ, ◌+◌, ◌<◌, ◌≤◌, cond, ◌&&◌, eqb, ◌⊎◌, List, [], ◌∷◌, length, Some, Option, sym, ap, ◌∙◌, subst, inl, inr, ⊎_elim, arith}
+use Rattle.std.proofs.Common.{◌≡◌, ℕ, ◌<◌, ◌≤◌, cond, ◌&&◌, eqb, ◌⊎◌, List, [], ◌∷◌, length, Some, sym, subst, ⊎_elim, arith}
 use Rattle.std.proofs.lemmas.List.{get_or-set_same, get_or-set_other}
-use Rattle.std.proofs.lemmas.Bool.{eq-eqb, ne_eqb, cond-true, cond-false, cases_eq}
 use Rattle.std.proofs.lemmas.Bool.Decides.{nat_tests}
 use Rattle.margin.specs.ByCode.{by_code, index}
 use Rattle.margin.specs.declared.contract.Contract.{Contract}
@@ -11,30 +10,16 @@ use Rattle.ledger.specs.Law.{place, position_of, contracts_of, none}
 use Rattle.ledger.specs.Moves.{at}
 
 pub listed_parts : (d : Contract) (cs : List Contract) (code : ℕ) (c : Contract) → by_code (d ∷ cs) code ≡ Some c → ((d.code ≡ code) × (d ≡ c)) ⊎ ((d.code ≡ code → ⊥) × (by_code cs code ≡ Some c))
-listed_parts d cs code c p =
-    ⊎_elim (λ h. let q : ◌≡◌ {A = Option Contract} (Some d) (Some c) = sym (cond-true _ _ _ (eq-eqb _ _ h)) ∙ p in inl (h, cc))
-    (λ ne. inr (ne, sym (cond-false _ _ _ (ne_eqb _ _ ne)) ∙ p)) (cases_eq d.code code)
+listed_parts d cs code c p = grind (arith, nat_tests)
 
-index_here : (d : Contract) (cs : List Contract) (code : ℕ) → d.code ≡ code → index (d ∷ cs) code ≡ 0
-index_here d cs code h = cond-true _ _ _ (eq-eqb _ _ h)
-
-index_later : (d : Contract) (cs : List Contract) (code : ℕ) → (d.code ≡ code → ⊥) → index (d ∷ cs) code ≡ 1 + index cs code
-index_later d cs code h = cond-false _ _ _ (ne_eqb _ _ h)
-
-pub index_within : (cs : List Contract) (code : ℕ) (c : Contract) → by_code cs code ≡ Some c → index cs code < length cs
-index_within [] code c p = let z : ◌≡◌ {A = ℕ} 0 1 = cc in absurd (omega arith)
-index_within (d ∷ cs) code c p =
-    ⊎_elim (λ q. omega (arith, index_here d cs code q.0)) (λ q. omega (arith, index_later d cs code q.0, index_within cs code c q.1)) (listed_parts d cs code c p)
+index_within : (cs : List Contract) (code : ℕ) (c : Contract) → by_code cs code ≡ Some c → index cs code < length cs
+index_within [] code c p = absurd cc
+index_within (d ∷ cs) code c p = let rest = index_within cs code c in grind (arith, nat_tests)
 
 -- one place is of one code
-pub index_apart : (cs : List Contract) (code code₂ : ℕ) (c c₂ : Contract) → by_code cs code ≡ Some c → by_code cs code₂ ≡ Some c₂ → index cs code ≡ index cs code₂ → code ≡ code₂
-index_apart [] code code₂ c c₂ p p₂ e = let z : ◌≡◌ {A = ℕ} 0 1 = cc in absurd (omega arith)
-index_apart (d ∷ cs) code code₂ c c₂ p p₂ e =
-    ⊎_elim
-    (λ q. ⊎_elim (λ q₂. sym q.0 ∙ q₂.0) (λ q₂. absurd (omega (arith, e, index_here d cs code q.0, index_later d cs code₂ q₂.0))) (listed_parts d cs code₂ c₂ p₂))
-    (λ q. ⊎_elim (λ q₂. absurd (omega (arith, e, index_later d cs code q.0, index_here d cs code₂ q₂.0)))
-    (λ q₂. index_apart cs code code₂ c c₂ q.1 q₂.1 (omega (arith, e, index_later d cs code q.0, index_later d cs code₂ q₂.0))) (listed_parts d cs code₂ c₂ p₂))
-    (listed_parts d cs code c p)
+index_apart : (cs : List Contract) (code code₂ : ℕ) (c c₂ : Contract) → by_code cs code ≡ Some c → by_code cs code₂ ≡ Some c₂ → index cs code ≡ index cs code₂ → code ≡ code₂
+index_apart [] code code₂ c c₂ p p₂ e = absurd cc
+index_apart (d ∷ cs) code code₂ c c₂ p p₂ e = let rest = index_apart cs code code₂ c c₂ in grind (arith, nat_tests)
 
 place_apart : (a a₂ k k₂ : ℕ) → 1 ≤ a → 1 ≤ a₂ → k < 64 → k₂ < 64 → place a k ≡ place a₂ k₂ → (a ≡ a₂) × (k ≡ k₂)
 place_apart a a₂ k k₂ lo lo₂ s s₂ e = (omega arith, omega arith)
@@ -54,13 +39,13 @@ module _ (b : Tables) (few : length (contracts_of b) ≤ 64) (long : length b.po
       off (q.0, index_apart (contracts_of b) code₂ code c₂ c is₂ is q.1))
 
 pub listed_code : (cs : List Contract) (code : ℕ) (c : Contract) → by_code cs code ≡ Some c → c.code ≡ code
-listed_code [] code c p = let z : ◌≡◌ {A = ℕ} 0 1 = cc in absurd (omega arith)
-listed_code (d ∷ cs) code c p = ⊎_elim (λ q. ap (λ (x : Contract). x.code) (sym q.1) ∙ q.0) (λ q. listed_code cs code c q.1) (listed_parts d cs code c p)
+listed_code [] code c p = absurd cc
+listed_code (d ∷ cs) code c p = let rest = listed_code cs code c in grind (arith, nat_tests)
 
 -- One account and code, and every other -------------------------------------------------------
 
 pub one_or_not : (a b c d : ℕ) → ((a ≡ b) × (c ≡ d)) ⊎ ((a ≡ b) × (c ≡ d) → ⊥)
-one_or_not a b c d = ⊎_elim (λ e. ⊎_elim (λ v. inl (e, v)) (λ nv. inr (λ q. nv q.1)) (cases_eq c d)) (λ ne. inr (λ q. ne q.0)) (cases_eq a b)
+one_or_not a b c d = grind (arith, nat_tests)
 
 -- what holds at one, and at every other, holds at each
 pub at_one : (P : ℕ → ℕ → Type 0) (a c : ℕ) → P a c → ((x y : ℕ) → ((x ≡ a) × (y ≡ c) → ⊥) → P x y) → (x y : ℕ) → P x y

@@ -1,8 +1,9 @@
 -- Combine keeps the law.
-use Rattle.std.proofs.Common.{◌≡◌, ℕ, ◌+◌, ◌-◌, ◌*◌, ◌^◌, ◌<◌, ◌≤◌, Bool, true, false, cond, eqb, List, ◌∷◌, Some, None, Option, sym, refl, ap, ◌∙◌, subst, ⊎_elim, arith}
+use Rattle.std.proofs.Common.{◌≡◌, ℕ, ◌+◌, ◌-◌, ◌*◌, ◌^◌, ◌<◌, ◌≤◌, Bool, true, cond, List, ◌∷◌, Some, None, Option, sym, refl, ap, ◌∙◌, subst, ⊎_elim, arith}
 use Rattle.register.specs.Numbers.{next_of, moved_on}
 use Rattle.std.proofs.lemmas.List.{length-set}
-use Rattle.std.proofs.lemmas.Bool.{ltb-false, cond-true, cond-false, cases_eq, eq-eqb, ne_eqb, or_parts, not-false}
+use Rattle.std.proofs.lemmas.Bool.Decides.{nat_tests}
+use Rattle.std.proofs.lemmas.Bool.{ltb-false, or_parts, not-false}
 use Rattle.register.specs.declared.row.Row.{Row}
 use Rattle.register.specs.Rows.{lookup, Added}
 use Rattle.register.proofs.After.{lookup_added, apart_added}
@@ -36,13 +37,12 @@ use Rattle.ledger.proofs.Regrouping.{regrouped, regrouped_tables, regrouped_keep
 
 fit_parts : (m : Meaning) (b : Tables) (s : Strategy) (x y : Option Contract) → fit_together s x y ≡ true → (c d : Contract) × (x ≡ Some c) × (y ≡ Some d) × (fits s c d ≡ true)
 fit_parts m b s (Some c) (Some d) h = (c, d, refl, refl, h)
-fit_parts m b s (Some c) None h = let z : ◌≡◌ {A = ℕ} 0 1 = cc in absurd (omega arith)
-fit_parts m b s None y h = let z : ◌≡◌ {A = ℕ} 0 1 = cc in absurd (omega arith)
+fit_parts m b s (Some c) None h = absurd cc
+fit_parts m b s None y h = absurd cc
 
 -- free lots of the first leg leave room on its side
 first_room : (t : Bool) (n w v : ℕ) → n ≤ cond t w v → (when t n ≤ w) × (cond t 0 n ≤ v)
-first_room true n w v h = (h, omega arith)
-first_room false n w v h = (omega arith, h)
+first_room t n w v h = grind arith
 
 -- a number under which no combination stands is named by no order
 engages_none : (ps : List (Entry Pairing)) (next : ℕ) (a : ℕ) (o : Order) (kind : OrderKind) → ((j : ℕ) (q : Pairing) → under ps j ≡ Some q → j < next) → LegStands ps a kind → engages next o kind ≡ 0
@@ -53,7 +53,7 @@ engages_none ps next a o (SellClose c) below g = refl
 engages_none ps next a o (LegClose j c) below g =
     let g' : LegOf ps a j c = g in
     let lt : j < next = below j g'.combination g'.stands in
-    cond-false _ _ _ (ne_eqb j next (λ e. omega arith))
+    grind (arith, nat_tests)
 
 module _ (m : Meaning) (l : Ledger) (b : Tables) (law : Law m l b) (p : Pairing) (account : (1 ≤ p.account) × (p.account ≤ 8)) (some : 1 ≤ p.lots) (fitted : Fitted (contracts_of b) p)
     (free_one : p.lots ≤ free_first p.strategy (position_of b p.account p.first)) (free_two : p.lots ≤ free_written (position_of b p.account p.second))
@@ -153,12 +153,11 @@ module _ (m : Meaning) (l : Ledger) (b : Tables) (law : Law m l b) (p : Pairing)
   module _ (rows : List (Row Combination)) (added : Added b.combinations (next_of b.combination_series) (combination_with 0 p) rows) where
     found : (n : ℕ) → lookup rows n ≡ combination_under (engaged l n) (under es n)
     found n =
-        lookup_added b.combinations rows (next_of b.combination_series) n (combination_with 0 p) positive absent added
-        ∙ ap (λ z. cond (eqb z n) (Some (combination_with 0 p)) (lookup b.combinations n)) next_is
-        ∙ ⊎_elim
-        (λ e. cond-true _ _ _ (eq-eqb _ _ e) ∙ ap (λ z. Some (combination_with z p)) (sym unengaged ∙ ap (engaged l) e) ∙ ap (combination_under (engaged l n)) (sym (cond-true _ _ _ (eq-eqb _ _ e))))
-        (λ ne. cond-false _ _ _ (ne_eqb _ _ ne) ∙ law.beside.combinations n ∙ ap (combination_under (engaged l n)) (sym (cond-false _ _ _ (ne_eqb _ _ ne))))
-        (cases_eq next n)
+        let row = lookup_added b.combinations rows (next_of b.combination_series) n (combination_with 0 p) positive absent added in
+        let old = law.beside.combinations n in
+        let none = unengaged in
+        let number = next_is in
+        grind (arith, nat_tests)
 
     pub grouped_keeps : Law m l' (regrouped_tables locked.positions rows (moved_on b.combination_series)
         (margins_moved (p.lots * legs_per_lot m (contracts_of b) p.strategy p.first p.second) (p.lots * pair_per_lot m (contracts_of b) p.strategy p.first p.second) b.funds) b)

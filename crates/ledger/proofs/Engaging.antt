@@ -1,6 +1,8 @@
 -- A leg close keeps the law.
 use Rattle.std.proofs.Common.{◌≡◌, ℕ, ◌+◌, ◌-◌, ◌*◌, ◌^◌, ◌≤◌, true, eqb, List, Some, Ok, Option, sym, refl, ap, ◌∙◌, subst, ⊎_elim, arith}
 use Rattle.register.specs.Numbers.{next_of}
+use Rattle.std.proofs.lemmas.Bool.Decides.{nat_tests}
+use Rattle.std.proofs.lemmas.Option.{same_Some}
 use Rattle.std.proofs.lemmas.Bool.{ltb-false, cases_eq, cond-true, cond-false, eq-eqb, ne_eqb, or_parts, not-false}
 use Rattle.margin.specs.ByCode.{by_code}
 use Rattle.margin.specs.declared.contract.Contract.{Contract}
@@ -22,7 +24,7 @@ use Rattle.ledger.specs.OrderRules.{OrderTaken}
 use Rattle.ledger.specs.CombinationRules.{written_leg, leg_close_tests, LegCloseRule}
 use Rattle.ledger.specs.Moves.{combinations_to}
 use Rattle.ledger.specs.Runs.{Law}
-use Rattle.ledger.proofs.Tests.{Stays, unmet, within, some_of, some_same, stands_as, unmet_at}
+use Rattle.ledger.proofs.Tests.{Stays, unmet, within, some_of, stands_as, unmet_at}
 use Rattle.ledger.proofs.Entries.{weighed_cons}
 use Rattle.ledger.proofs.Moved.{all_alike}
 use Rattle.ledger.proofs.Entering.{entered_keeps}
@@ -33,10 +35,7 @@ pub row_engaged : (rows : List (Row Combination)) (n k eng now later : ℕ) (p :
     lookup rows n ≡ Some (combination_with eng p) → (n ≡ k → (o ≡ Some p)) → (n ≡ k → later ≡ now) → ((n ≡ k → ⊥) → lookup rows k ≡ combination_under later o) →
     lookup (changed rows n (combination_with now p)) k ≡ combination_under later o
 row_engaged rows n k eng now later p o s here same else =
-    lookup_changed rows n k (combination_with now p) (combination_with eng p) s ∙
-    ⊎_elim (λ e. cond-true _ _ _ (eq-eqb _ _ e) ∙ ap (λ z. Some (combination_with z p)) (sym (same e)) ∙ ap (combination_under later) (sym (here e)))
-    (λ ne. cond-false _ _ _ (ne_eqb _ _ ne) ∙ else ne)
-    (cases_eq n k)
+    let row = lookup_changed rows n k (combination_with now p) (combination_with eng p) s in grind (arith, nat_tests)
 
 module _ (m : Meaning) (b : Tables) (n code lots limit : ℕ) where
   -- the call, where its combination is known
@@ -65,7 +64,7 @@ module _ (m : Meaning) (b : Tables) (n code lots limit : ℕ) where
             (λ e. ap (under l.combinations) (sym e) ∙ stands) (λ e. here k e) (λ ne. law.beside.combinations k ∙ ap (λ z. combination_under z (under l.combinations k)) (sym (else k ne)));
         apart = apart_changed b.combinations n (combination_with (engaged l n + lots) p) law.sound.combination_rows;
         engaged_most = λ k q s. ⊎_elim
-            (λ e. let same : q ≡ p = some_same (sym s ∙ ap (under l.combinations) (sym e) ∙ stands) in omega (arith, here k e, ap (λ (z : Pairing). z.lots) same, free, some_lots))
+            (λ e. let same : q ≡ p = same_Some _ _ (sym s ∙ ap (under l.combinations) (sym e) ∙ stands) in omega (arith, here k e, ap (λ (z : Pairing). z.lots) same, free, some_lots))
             (λ ne. omega (arith, else k ne, law.sound.engaged_most k q s)) (cases_eq n k);
         written_most = λ x y. omega (arith, law.sound.written_most x y);
         bought_most = λ x y. omega (arith, law.sound.bought_most x y);

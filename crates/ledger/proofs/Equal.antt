@@ -1,5 +1,5 @@
 -- Two books with the same standing and the same cash total have equal balances.
-use Rattle.std.proofs.Common.{◌≡◌, ℕ, ◌+◌, ◌-◌, ◌*◌, Bool, true, false, cond, List, [], ◌∷◌, map, Some, None, sum_by, Option, sym, refl, ap, ◌∙◌, ap₂, arith}
+use Rattle.std.proofs.Common.{◌≡◌, ℕ, ◌+◌, ◌-◌, ◌*◌, cond, List, [], ◌∷◌, map, Some, None, sum_by, Option, sym, refl, ap, ◌∙◌, ap₂, arith}
 use Rattle.std.proofs.lemmas.List.Sums.{sum_by-cons}
 use Rattle.std.proofs.lemmas.List.Sorted.{sum_by-IsPermutation}
 use Rattle.margin.specs.ByCode.{by_code}
@@ -40,12 +40,8 @@ module _ (m n : Meaning) (same : SameMeaning m n) (cs : List Contract) where
       let by : (x : Meaning) → pair_margin x cs p ≡ x.pair p.strategy f.first f.second = λ x. ap (λ o. pair_margin_of x p.strategy o (by_code cs p.second)) f.first_listed ∙ ap (pair_margin_of x p.strategy (Some f.first)) f.second_listed in
       by m ∙ same.pairs p.strategy f.first f.second f.fit ∙ sym (by n)
 
-  same_other : (t : Bool) (o : Option Contract) → cond t (leg_margin_of m o) 0 ≡ cond t (leg_margin_of n o) 0
-  same_other true o = same_leg o
-  same_other false o = refl
-
   same_close : (c limit : ℕ) (o : Option Pairing) → ((p : Pairing) → o ≡ Some p → Fitted cs p) → leg_close_reserve m cs c limit o ≡ leg_close_reserve n cs c limit o
-  same_close c limit (Some p) fitted = ap₂ (λ x y. (x + limit * unit_of (by_code cs c)) - y) (same_other (first_written p.strategy) _) (same_pair p (fitted p refl))
+  same_close c limit (Some p) fitted = ap₂ (λ x y. (x + limit * unit_of (by_code cs c)) - y) (ap (λ z. cond (first_written p.strategy) z 0) (same_leg _)) (same_pair p (fitted p refl))
   same_close c limit None fitted = refl
 
   same_reserve : (ps : List (Entry Pairing)) (kind : OrderKind) (limit : ℕ) → ((j : ℕ) (p : Pairing) → under ps j ≡ Some p → Fitted cs p) → reserve m cs ps kind limit ≡ reserve n cs ps kind limit

@@ -21,7 +21,7 @@ line_above (d ∷ cs) low f g r h =
     omega (arith, h d lt, line_above cs d.code f g r.1 (λ x w. h x (omega arith)), sum_by-cons f d cs, sum_by-cons g d cs)
 
 line_one : (cs : List Contract) (low code : ℕ) (c : Contract) (f g : Contract → ℕ) → Rising low cs → by_code cs code ≡ Some c → ((d : Contract) → (d.code ≡ code → ⊥) → f d ≡ g d) → line f cs + g c ≡ line g cs + f c
-line_one [] low code c f g r p h = let z : ◌≡◌ {A = ℕ} 0 1 = cc in absurd (omega arith)
+line_one [] low code c f g r p h = absurd cc
 line_one (d ∷ cs) low code c f g r p h =
     ⊎_elim
     (λ q. let e : d.code ≡ code = q.0 in

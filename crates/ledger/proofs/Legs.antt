@@ -1,5 +1,6 @@
 -- Orders where combinations change: a leg close keeps its leg and its reserve while its combination stays, but for lots.
 use Rattle.std.proofs.Common.{◌≡◌, ℕ, ◌-◌, ◌<◌, List, ◌∷◌, Some, sym, refl, ap, ◌∙◌, ⊎_elim, arith}
+use Rattle.std.proofs.lemmas.Option.{same_Some}
 use Rattle.std.proofs.lemmas.Bool.{cases_eq, cond-true, cond-false, eq-eqb, ne_eqb}
 use Rattle.margin.specs.declared.contract.Contract.{Contract}
 use Rattle.ledger.specs.declared.order.OrderKind.{OrderKind}
@@ -10,7 +11,6 @@ use Rattle.ledger.specs.Content.{Pairing}
 use Rattle.ledger.specs.Law.{reserve}
 use Rattle.ledger.specs.Amounts.{leg_close_reserve}
 use Rattle.ledger.specs.Runs.{Numbers, LegStands, LegOf}
-use Rattle.ledger.proofs.Tests.{some_same}
 use Rattle.ledger.proofs.Entries.{under_put, under_within}
 use Rattle.ledger.proofs.Pairings.{pair_lots, some_left}
 
@@ -54,7 +54,7 @@ pub less_stays : (ps : List (Entry Pairing)) (next n lots : ℕ) (p : Pairing) (
 less_stays ps next n lots p j s stands rest q st =
     let after = under_put ps next n j (pairing_less lots p) p s stands in
     ⊎_elim
-    (λ e. let same : p ≡ q = some_same (sym stands ∙ ap (under ps) e ∙ st) in
+    (λ e. let same : p ≡ q = same_Some _ _ (sym stands ∙ ap (under ps) e ∙ st) in
     (p.lots - lots, after ∙ cond-true _ _ _ (eq-eqb n j e) ∙ some_left lots p (rest e) ∙ ap (λ z. Some (pair_lots (p.lots - lots) z)) same))
     (λ ne. (q.lots, after ∙ cond-false _ _ _ (ne_eqb n j ne) ∙ st))
     (cases_eq n j)

@@ -72,9 +72,9 @@ opening_law m cs permitted balance first b file o =
         owned = λ a code some. absurd (omega (arith, some));
         combination_numbers = tt;
         order_numbers = tt;
-        combinations = λ n p e. let z : ◌≡◌ {A = ℕ} 0 1 = cc in absurd (omega arith);
-        orders = λ n p e. let z : ◌≡◌ {A = ℕ} 0 1 = cc in absurd (omega arith);
-        engaged_most = λ n p e. let z : ◌≡◌ {A = ℕ} 0 1 = cc in absurd (omega arith);
+        combinations = λ n p e. absurd cc;
+        orders = λ n p e. absurd cc;
+        engaged_most = λ n p e. absurd cc;
         combination_rows = free_apart b.combinations o.combinations;
         order_rows = free_apart b.orders o.orders;
         last_combination = (file.numbers.0, omega (arith, file.numbers));

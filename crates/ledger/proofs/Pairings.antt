@@ -1,6 +1,7 @@
 -- Some lots of a combination gone: what stands, and what the sums that go by lots come to. And the legs of a combination.
-use Rattle.std.proofs.Common.{◌≡◌, ℕ, ◌+◌, ◌-◌, ◌*◌, ◌<◌, ◌≤◌, Bool, true, false, cond, ◌&&◌, eqb, ltb, leb, ◌⊎◌, List, Some, None, Option, sym, refl, ap, ◌∙◌, subst, inl, inr, ⊎_elim, arith}
-use Rattle.std.proofs.lemmas.Bool.{eq-eqb, ne_eqb, eqb-true, le-ltb, leb-true, both_ways, cond-true, cond-false, cases_eq, cases_Bool, and_parts, or_cases}
+use Rattle.std.proofs.Common.{◌≡◌, ℕ, ◌+◌, ◌-◌, ◌*◌, ◌<◌, ◌≤◌, true, false, ◌&&◌, ltb, leb, ◌⊎◌, List, Some, None, Option, sym, refl, ap, ◌∙◌, subst, ⊎_elim, arith}
+use Rattle.std.proofs.lemmas.Bool.Decides.{nat_tests}
+use Rattle.std.proofs.lemmas.Bool.{le-ltb, both_ways, and_parts}
 use Rattle.margin.specs.ByCode.{by_code}
 use Rattle.margin.specs.declared.contract.Contract.{Contract}
 use Rattle.margin.specs.declared.contract.Right.{Right}
@@ -17,7 +18,7 @@ use Rattle.ledger.specs.declared.tables.Tables.{Tables}
 use Rattle.margin.specs.Meaning.{Meaning}
 use Rattle.ledger.specs.Ledger.{Ledger, Entry, under, put, pairing_less}
 use Rattle.ledger.specs.Content.{Pairing}
-use Rattle.ledger.specs.Law.{when, written_claim, bought_claim, combination_under, engaged}
+use Rattle.ledger.specs.Law.{written_claim, bought_claim, combination_under, engaged}
 use Rattle.ledger.specs.Tests.{is_none}
 use Rattle.ledger.specs.Moves.{combination_rest}
 use Rattle.ledger.specs.CombinationRules.{written_leg}
@@ -26,7 +27,7 @@ use Rattle.ledger.specs.Amounts.{pair_margin}
 use Rattle.ledger.proofs.Tests.{some_of}
 use Rattle.ledger.proofs.Entries.{weighed, under_put}
 use Rattle.ledger.proofs.Lessened.{weighed_lessened, lessened_parts, lookup_rest, apart_rest}
-use Rattle.ledger.proofs.Shares.{when_split, split_mul}
+use Rattle.ledger.proofs.Shares.{split_mul}
 
 abbrev pub pair_lots : ℕ → Pairing → Pairing
 pair_lots k p = record { account = p.account; strategy = p.strategy; first = p.first; second = p.second; lots = k }
@@ -37,7 +38,7 @@ combination_with eng p = record { account = p.account; strategy = p.strategy; fi
 
 row_parts : (eng : ℕ) (o : Option Pairing) (x : Combination) → combination_under eng o ≡ Some x → (p : Pairing) × ((o ≡ Some p) × (x ≡ combination_with eng p))
 row_parts eng (Some p) x e = (p, (refl, cc))
-row_parts eng None x e = let z : ◌≡◌ {A = ℕ} 0 1 = cc in absurd (omega arith)
+row_parts eng None x e = absurd cc
 
 -- a weight of combinations that goes by lots
 abbrev pub PairsByLots : (Pairing → ℕ) → Type 0
@@ -47,38 +48,21 @@ pub pairs_less : (g : Pairing → ℕ) → PairsByLots g → (es : List (Entry P
 pairs_less g by es n lots p s h = weighed_lessened (λ (x : Pairing). x.lots) pair_lots (λ x. refl) g by es n lots p s h
 
 pub written_claim_by : (a c : ℕ) → PairsByLots (written_claim a c)
-written_claim_by a c p k h =
-    let one = when_split (first_written p.strategy && eqb p.first c) p.lots k h in
-    let two = when_split (eqb p.second c) p.lots k h in
-    outer (eqb p.account a) _ _ _ (omega (arith, one, two))
-  where
-    outer : (t : Bool) (x y z : ℕ) → x + y ≡ z → when t x + when t y ≡ when t z
-    outer true x y z e = e
-    outer false x y z e = refl
+written_claim_by a c p k h = grind (arith, nat_tests)
 
 pub bought_claim_by : (a c : ℕ) → PairsByLots (bought_claim a c)
-bought_claim_by a c p k h = outer (eqb p.account a) (first_written p.strategy) _ _ _ (when_split (eqb p.first c) p.lots k h)
-  where
-    outer : (t u : Bool) (x y z : ℕ) → x + y ≡ z → when t (cond u 0 x) + when t (cond u 0 y) ≡ when t (cond u 0 z)
-    outer true true x y z e = refl
-    outer true false x y z e = e
-    outer false u x y z e = refl
+bought_claim_by a c p k h = grind (arith, nat_tests)
 
 pub pair_margin_by : (m : Meaning) (cs : List Contract) → PairsByLots (λ p. p.lots * pair_margin m cs p)
 pair_margin_by m cs p k h = split_mul p.lots k (pair_margin m cs p) h
 
 -- Rows and entries of combinations ----------------------------------------------------------------
 
-row_left : (t : Bool) (eng : ℕ) (p : Pairing) → cond t None (Some (combination_with eng p)) ≡ combination_under eng (cond t None (Some p))
-row_left true eng p = refl
-row_left false eng p = refl
-
 pub apart_pair_rest : (rows : List (Row Combination)) (n lots gone eng : ℕ) (p : Pairing) → Apart rows → Apart (combination_rest n lots gone (combination_with eng p) rows)
 apart_pair_rest rows n lots gone eng p a = apart_rest (leb p.lots lots) rows n (combination_with (eng - gone) (pair_lots (p.lots - lots) p)) a
 
 pub some_left : (lots : ℕ) (p : Pairing) → lots < p.lots → pairing_less lots p ≡ Some (pair_lots (p.lots - lots) p)
-some_left lots p h =
-    ⊎_elim (λ t. let all : p.lots ≤ lots = leb-true _ _ t in absurd (omega arith)) (λ t. cond-false _ _ _ t) (cases_Bool (leb p.lots lots))
+some_left lots p h = grind (arith, nat_tests)
 
 -- what stands after: the rest of the combination, or another that stood
 pub pair_less_parts : (es : List (Entry Pairing)) (next n lots k : ℕ) (p x : Pairing) → Numbers es next → under es n ≡ Some p → under (put n (pairing_less lots p) es) k ≡ Some x →
@@ -103,13 +87,9 @@ sound_less cs es next n lots p s st sound k x q =
 pub rows_less : (rows : List (Row Combination)) (es : List (Entry Pairing)) (next n lots gone k eng now : ℕ) (p : Pairing) → Apart rows → lookup rows n ≡ Some (combination_with eng p) → Numbers es next → under es n ≡ Some p →
     (n ≡ k → eng - gone ≡ now) → ((n ≡ k → ⊥) → lookup rows k ≡ combination_under now (under es k)) → lookup (combination_rest n lots gone (combination_with eng p) rows) k ≡ combination_under now (under (put n (pairing_less lots p) es) k)
 rows_less rows es next n lots gone k eng now p a found s st here else =
+    let row = lookup_rest (leb p.lots lots) rows n k (combination_with (eng - gone) (pair_lots (p.lots - lots) p)) (combination_with eng p) a found in
     let after = under_put es next n k (pairing_less lots p) p s st in
-    lookup_rest (leb p.lots lots) rows n k (combination_with (eng - gone) (pair_lots (p.lots - lots) p)) (combination_with eng p) a found ∙
-    ap (λ z. cond (eqb n k) z (lookup rows k)) (row_left (leb p.lots lots) (eng - gone) (pair_lots (p.lots - lots) p)) ∙
-    ⊎_elim
-    (λ e. cond-true _ _ _ (eq-eqb _ _ e) ∙ ap (λ z. combination_under z (pairing_less lots p)) (here e) ∙ ap (combination_under now) (sym (after ∙ cond-true _ _ _ (eq-eqb _ _ e))))
-    (λ ne. cond-false _ _ _ (ne_eqb _ _ ne) ∙ else ne ∙ ap (combination_under now) (sym (after ∙ cond-false _ _ _ (ne_eqb _ _ ne))))
-    (cases_eq n k)
+    grind (arith, nat_tests)
 
 -- Legs --------------------------------------------------------------------------------------------
 
@@ -119,8 +99,8 @@ self_fit BullCallSpread r k p = both_ways _ (le-ltb k k (omega arith)) (and_part
 self_fit BearCallSpread r k p = both_ways _ (le-ltb k k (omega arith)) (and_parts (rights_fit BearCallSpread r r) (ltb k k) p).1
 self_fit BullPutSpread r k p = both_ways _ (le-ltb k k (omega arith)) (and_parts (rights_fit BullPutSpread r r) (ltb k k) p).1
 self_fit BearPutSpread r k p = both_ways _ (le-ltb k k (omega arith)) (and_parts (rights_fit BearPutSpread r r) (ltb k k) p).1
-self_fit ShortStraddle Call k p = let z : ◌≡◌ {A = ℕ} 0 1 = cc in omega arith
-self_fit ShortStraddle Put k p = let z : ◌≡◌ {A = ℕ} 0 1 = cc in omega arith
+self_fit ShortStraddle Call k p = cc
+self_fit ShortStraddle Put k p = cc
 self_fit ShortStrangle r k p = both_ways _ (le-ltb k k (omega arith)) (and_parts (rights_fit ShortStrangle r r) (ltb k k) p).1
 
 pub legs_apart : (cs : List Contract) (p : Pairing) → Fitted cs p → p.first ≡ p.second → ⊥
@@ -132,8 +112,7 @@ legs_apart cs p f e =
     self_fit p.strategy f.first.right f.first.strike (and_parts _ _ fit).1
 
 pub leg_parts : (p : Pairing) (code : ℕ) → written_leg p code ≡ true → (p.second ≡ code) ⊎ ((first_written p.strategy ≡ true) × (p.first ≡ code))
-leg_parts p code h =
-    ⊎_elim (λ e. inl (eqb-true _ _ e)) (λ e. let q = and_parts _ _ e in inr (q.0, eqb-true _ _ q.1)) (or_cases _ _ h)
+leg_parts p code h = grind (arith, nat_tests)
 
 -- A book and its ledger ---------------------------------------------------------------------------
 

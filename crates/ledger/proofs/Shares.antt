@@ -1,5 +1,5 @@
 -- Some lots of an order gone: what stands, and what the sums that go by lots come to.
-use Rattle.std.proofs.Common.{◌≡◌, ℕ, ◌+◌, ◌-◌, ◌*◌, ◌<◌, ◌≤◌, Bool, true, false, ◌&&◌, eqb, leb, ◌⊎◌, List, Some, None, sym, refl, ap, ◌∙◌, add-mul, arith}
+use Rattle.std.proofs.Common.{◌≡◌, ℕ, ◌+◌, ◌-◌, ◌*◌, ◌<◌, ◌≤◌, leb, ◌⊎◌, List, Some, None, sym, refl, ap, ◌∙◌, add-mul, arith}
 use Rattle.std.proofs.lemmas.Bool.{le-leb, cond-true}
 use Rattle.register.specs.declared.row.Row.{Row}
 use Rattle.register.specs.Rows.{lookup, removed}
@@ -8,19 +8,13 @@ use Rattle.ledger.specs.declared.order.OrderKind.{OrderKind}
 use Rattle.ledger.specs.declared.order.OrderKind.TheVariants.{SellOpen, BuyOpen, BuyClose, SellClose, LegClose}
 use Rattle.ledger.specs.Ledger.{Entry, under, put, order_less}
 use Rattle.ledger.specs.Content.{contract_of}
-use Rattle.ledger.specs.Law.{when, closes_written, closes_bought, engages}
+use Rattle.ledger.specs.Law.{closes_written, closes_bought, engages}
 use Rattle.ledger.specs.Moves.{order_rest}
 use Rattle.ledger.specs.OrderRules.{working_sum, opens_written, opens_bought}
 use Rattle.ledger.specs.Runs.{Numbers}
 use Rattle.ledger.proofs.Entries.{weighed}
 use Rattle.ledger.proofs.Lessened.{less_weight, weighed_lessened, lessened_parts, in_use_rest}
 use Rattle.ledger.proofs.Codes.{order_else}
-
--- Lots where a test holds -------------------------------------------------------------------
-
-pub when_split : (t : Bool) (n k : ℕ) → k ≤ n → when t (n - k) + when t k ≡ when t n
-when_split true n k h = omega arith
-when_split false n k h = refl
 
 pub split_mul : (n k r : ℕ) → k ≤ n → (n - k) * r + k * r ≡ n * r
 split_mul n k r h = sym (add-mul (n - k) k r) ∙ ap (λ x. x * r) (omega arith)
@@ -64,11 +58,11 @@ Splits f o k kind = f (of_lots (o.lots - k) o) kind + f (of_lots k o) kind ≡ f
 
 pub order_splits : (a c n : ℕ) (o : Order) (k : ℕ) (kind : OrderKind) → k ≤ o.lots →
     Splits (closes_written a c) o k kind × Splits (closes_bought a c) o k kind × Splits (opens_written a c) o k kind × Splits (opens_bought a c) o k kind × Splits (engages n) o k kind
-order_splits a c n o k (SellOpen x) h = (refl, refl, when_split (eqb o.account a && eqb x c) o.lots k h, refl, refl)
-order_splits a c n o k (BuyOpen x) h = (refl, refl, refl, when_split (eqb o.account a && eqb x c) o.lots k h, refl)
-order_splits a c n o k (BuyClose x) h = (when_split (eqb o.account a && eqb x c) o.lots k h, refl, refl, refl, refl)
-order_splits a c n o k (SellClose x) h = (refl, when_split (eqb o.account a && eqb x c) o.lots k h, refl, refl, refl)
-order_splits a c n o k (LegClose j x) h = (refl, refl, refl, refl, when_split (eqb j n) o.lots k h)
+order_splits a c n o k (SellOpen x) h = (refl, refl, grind arith, refl, refl)
+order_splits a c n o k (BuyOpen x) h = (refl, refl, refl, grind arith, refl)
+order_splits a c n o k (BuyClose x) h = (grind arith, refl, refl, refl, refl)
+order_splits a c n o k (SellClose x) h = (refl, grind arith, refl, refl, refl)
+order_splits a c n o k (LegClose j x) h = (refl, refl, refl, refl, grind arith)
 
 -- it claims and opens at its account and contract alone
 pub elsewhere : (x y : ℕ) (o : Order) (kind : OrderKind) → ((x ≡ o.account) × (y ≡ contract_of kind) → ⊥) →
