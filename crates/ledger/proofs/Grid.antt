@@ -1,7 +1,6 @@
 -- A sum over accounts and contracts, where it changes at one account and code.
-use Rattle.std.proofs.Common.{◌≡◌, ℕ, ◌+◌, ◌*◌, ◌<◌, ◌≤◌, cond, ◌&&◌, eqb, ◌⊎◌, List, [], ◌∷◌, Some, sum_by, sym, refl, ap, ◌∙◌, inl, inr, ⊎_elim, arith}
+use Rattle.std.proofs.Common.{◌≡◌, ℕ, ◌+◌, ◌*◌, ◌<◌, ◌≤◌, cond, ◌&&◌, eqb, List, [], ◌∷◌, Some, sum_by, sym, refl, ap, ◌∙◌, ⊎_elim, arith}
 use Rattle.std.proofs.lemmas.List.Sums.{sum_by-cons, sum_by-le-sum_by}
-use Rattle.std.proofs.lemmas.Bool.{cases_eq}
 use Rattle.margin.specs.ByCode.{by_code}
 use Rattle.margin.specs.declared.contract.Contract.{Contract}
 use Rattle.ledger.specs.Law.{accounts}
@@ -17,8 +16,7 @@ line_same cs f g h = omega (arith, sum_by-le-sum_by f g cs (λ d. omega (arith, 
 line_above : (cs : List Contract) (low : ℕ) (f g : Contract → ℕ) → Rising low cs → ((d : Contract) → low < d.code → f d ≡ g d) → line f cs ≡ line g cs
 line_above [] low f g r h = refl
 line_above (d ∷ cs) low f g r h =
-    let lt : low < d.code = r.0 in
-    omega (arith, h d lt, line_above cs d.code f g r.1 (λ x w. h x (omega arith)), sum_by-cons f d cs, sum_by-cons g d cs)
+    let lt : low < d.code = r.0 in let here = h d lt in let rest = line_above cs d.code f g r.1 (λ x w. h x (omega arith)) in grind (arith, sum_by-cons)
 
 line_one : (cs : List Contract) (low code : ℕ) (c : Contract) (f g : Contract → ℕ) → Rising low cs → by_code cs code ≡ Some c → ((d : Contract) → (d.code ≡ code → ⊥) → f d ≡ g d) → line f cs + g c ≡ line g cs + f c
 line_one [] low code c f g r p h = absurd cc
@@ -31,9 +29,7 @@ line_one (d ∷ cs) low code c f g r p h =
     (listed_parts d cs code c p)
 
 accounts_one : (a : ℕ) (f g : ℕ → ℕ) → 1 ≤ a → a ≤ 8 → ((x : ℕ) → (x ≡ a → ⊥) → f x ≡ g x) → sum_by f accounts + g a ≡ sum_by g accounts + f a
-accounts_one a f g low high h =
-    let at : (x : ℕ) → ((x ≡ a → ⊥) × (f x ≡ g x)) ⊎ ((x ≡ a) × (f x ≡ f a) × (g x ≡ g a)) = λ x. ⊎_elim (λ e. inr (e, ap f e, ap g e)) (λ ne. inl (ne, h x ne)) (cases_eq x a) in
-    omega (arith, at 1, at 2, at 3, at 4, at 5, at 6, at 7, at 8)
+accounts_one a f g low high h = grind (arith, h 1, h 2, h 3, h 4, h 5, h 6, h 7, h 8)
 
 abbrev pub grid : (ℕ → Contract → ℕ) → List Contract → ℕ
 grid f cs = sum_by (λ a. sum_by (λ (c : Contract). f a c) cs) accounts
