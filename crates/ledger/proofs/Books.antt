@@ -153,20 +153,21 @@ same_books_balance m n b d kept kept' meaning contracts same =
     let law' : Law n k d = kept'.1 in
     let move : (a code : ℕ) → OnTheBook (contracts_of b) a code → OnTheBook (contracts_of d) a code = λ a code on. subst (λ cs. OnTheBook cs a code) contracts on in
     let back : (a code : ℕ) → OnTheBook (contracts_of d) a code → OnTheBook (contracts_of b) a code = λ a code on. subst (λ cs. OnTheBook cs a code) (sym contracts) on in
-    let working_sum : SameStanding l k = record {
-      bought = λ a code. ⊎_elim
-          (λ on. let on' = move a code on in
-          sym (law.beside.lots a code on.2.0 on.0 on.1 on.2.1).bought ∙ same.bought a code on ∙ (law'.beside.lots a code on'.2.0 on'.0 on'.1 on'.2.1).bought)
-          (λ off. omega (arith, none_elsewhere m l b law a code off, none_elsewhere n k d law' a code (λ on. off (back a code on))))
-          (on_or_off (contracts_of b) a code);
-      written = λ a code. ⊎_elim
-          (λ on. let on' = move a code on in
-          sym (law.beside.lots a code on.2.0 on.0 on.1 on.2.1).written ∙ same.written a code on ∙ (law'.beside.lots a code on'.2.0 on'.0 on'.1 on'.2.1).written)
-          (λ off. omega (arith, none_elsewhere m l b law a code off, none_elsewhere n k d law' a code (λ on. off (back a code on))))
-          (on_or_off (contracts_of b) a code);
+    let owned : (a code : ℕ) → (l.bought a code ≡ k.bought a code) × (l.written a code ≡ k.written a code) = λ a code. ⊎_elim
+    (λ on. let on' = move a code on in
+    let lot = law.beside.lots a code on.2.0 on.0 on.1 on.2.1 in
+    let lot' = law'.beside.lots a code on'.2.0 on'.0 on'.1 on'.2.1 in
+    (sym lot.bought ∙ same.bought a code on ∙ lot'.bought, sym lot.written ∙ same.written a code on ∙ lot'.written))
+    (λ off. let none = none_elsewhere m l b law a code off in
+    let none' = none_elsewhere n k d law' a code (λ on. off (back a code on)) in
+    (omega arith, omega arith))
+    (on_or_off (contracts_of b) a code) in
+    let standing : SameStanding l k = record {
+      bought = λ a code. (owned a code).0;
+      written = λ a code. (owned a code).1;
       combinations = IsPermutation-trans (combinations_of l) (book_combinations b) (combinations_of k) (IsPermutation-sym (book_combinations b) (combinations_of l) (combinations_shown m l b law))
           (IsPermutation-trans (book_combinations b) (book_combinations d) (combinations_of k) same.combinations (combinations_shown n k d law'));
       orders = IsPermutation-trans (orders_of l) (book_orders b) (orders_of k) (IsPermutation-sym (book_orders b) (orders_of l) (orders_shown m l b law))
           (IsPermutation-trans (book_orders b) (book_orders d) (orders_of k) same.orders (orders_shown n k d law'));
     } in
-    equal_balances m n l k b d law law' meaning contracts (omega (arith, same.cash, law.beside.cash, law'.beside.cash)) working_sum
+    equal_balances m n l k b d law law' meaning contracts (omega (arith, same.cash, law.beside.cash, law'.beside.cash)) standing

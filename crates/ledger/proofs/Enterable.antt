@@ -1,5 +1,5 @@
 -- A call that is accepted is one that the ledger can take.
-use Rattle.std.proofs.Common.{◌≡◌, ℕ, ◌-◌, ◌≤◌, cond, ◌&&◌, eqb, [], ◌∷◌, Some, Ok, Option, sym, refl, subst, ⊎_elim, arith}
+use Rattle.std.proofs.Common.{◌≡◌, ℕ, ◌-◌, ◌≤◌, cond, eqb, [], ◌∷◌, Some, Ok, Option, sym, refl, subst, ⊎_elim, arith}
 use Rattle.std.proofs.lemmas.Bool.{ltb-false, cond-true, eq-eqb, not-false}
 use Rattle.register.specs.Rows.{lookup}
 use Rattle.ledger.specs.declared.call.Call.{Call}
@@ -12,7 +12,7 @@ use Rattle.ledger.specs.declared.tables.Tables.{Tables}
 use Rattle.margin.specs.Meaning.{Meaning}
 use Rattle.margin.specs.Strategies.{strategy_of}
 use Rattle.ledger.specs.Ledger.{Ledger, under}
-use Rattle.ledger.specs.Content.{Pairing}
+use Rattle.ledger.specs.Content.{Pairing, contract_of}
 use Rattle.ledger.specs.Law.{Lots, contracts_of, position_of, engaged, engages, closes_written, closes_bought, written_claim}
 use Rattle.ledger.specs.Tests.{Standing, is_none}
 use Rattle.ledger.specs.FillRules.{fill_tests}
@@ -32,21 +32,21 @@ module _ (m : Meaning) (l : Ledger) (b : Tables) (law : Law m l b) where
     abbrev made : ℕ → OrderKind → ℕ → ℕ → Order
     made a kind whole limit = record { account = a; kind = kind; lots = whole; limit = limit }
 
+    -- what a working close claims is owned
+    closes_owned : (o : Order) → under l.orders n ≡ Some o →
+        (closes_written o.account (contract_of o.kind) o o.kind ≤ l.written o.account (contract_of o.kind)) × (closes_bought o.account (contract_of o.kind) o o.kind ≤ l.bought o.account (contract_of o.kind))
+    closes_owned o stands =
+        let a : ℕ = o.account in
+        let c : ℕ = contract_of o.kind in
+        let fit : SoundOrder (contracts_of b) l.combinations o = law.sound.orders n o stands in
+        let lot : Lots l a c (position_of b a c) = law.beside.lots a c fit.contract.0 fit.account.0 fit.account.1 fit.contract.1 in
+        (omega (arith, lot.written_free, weighed_part (λ z. closes_written a c z z.kind) l.orders n o stands), omega (arith, lot.bought_free, weighed_part (λ z. closes_bought a c z z.kind) l.orders n o stands))
+
     fillable : (kind : OrderKind) (a whole limit : ℕ) → under l.orders n ≡ Some (made a kind whole limit) → lots ≤ whole → Fillable l a lots kind
     fillable (SellOpen c) a whole limit stands within = tt
     fillable (BuyOpen c) a whole limit stands within = tt
-    fillable (BuyClose c) a whole limit stands within =
-        let o : Order = made a (BuyClose c) whole limit in
-        let fit : SoundOrder (contracts_of b) l.combinations o = law.sound.orders n o stands in
-        let lot : Lots l a c (position_of b a c) = law.beside.lots a c fit.contract.0 fit.account.0 fit.account.1 fit.contract.1 in
-        let here : cond (eqb a a && eqb c c) whole 0 ≡ whole = one_here a c whole 0 in
-        omega (arith, lot.written_free, here, weighed_part (λ z. closes_written a c z z.kind) l.orders n o stands)
-    fillable (SellClose c) a whole limit stands within =
-        let o : Order = made a (SellClose c) whole limit in
-        let fit : SoundOrder (contracts_of b) l.combinations o = law.sound.orders n o stands in
-        let lot : Lots l a c (position_of b a c) = law.beside.lots a c fit.contract.0 fit.account.0 fit.account.1 fit.contract.1 in
-        let here : cond (eqb a a && eqb c c) whole 0 ≡ whole = one_here a c whole 0 in
-        omega (arith, lot.bought_free, here, weighed_part (λ z. closes_bought a c z z.kind) l.orders n o stands)
+    fillable (BuyClose c) a whole limit stands within = omega (arith, (closes_owned (made a (BuyClose c) whole limit) stands).0, one_here a c whole 0)
+    fillable (SellClose c) a whole limit stands within = omega (arith, (closes_owned (made a (SellClose c) whole limit) stands).1, one_here a c whole 0)
     fillable (LegClose k c) a whole limit stands within =
         let o : Order = made a (LegClose k c) whole limit in
         let g : LegOf l.combinations a k c = (law.sound.orders n o stands).leg in

@@ -25,7 +25,7 @@ use Rattle.ledger.proofs.Leaving.{left, left_tables, Part, left_keeps, closes_wr
 use Rattle.ledger.proofs.Covered.{leg_covered}
 use Rattle.ledger.proofs.Codes.{at_one, one_here, one_else}
 use Rattle.ledger.proofs.Pairings.{combination_with, row_of, pair_lots, pairs_less, written_claim_by, bought_claim_by, pair_margin_by, rows_less, sound_less, apart_pair_rest, pair_less_parts}
-use Rattle.ledger.proofs.Legs.{NamedStays, leg_stays, reserve_stays, less_stays}
+use Rattle.ledger.proofs.Legs.{NamedStays, order_stays, less_stays}
 use Rattle.ledger.proofs.Others.{OtherLeg}
 
 module _ (m : Meaning) (l : Ledger) (b : Tables) (law : Law m l b) (n k c lots price whole limit : ℕ) (p : Pairing) (stands : under l.combinations k ≡ Some p) where
@@ -118,10 +118,10 @@ module _ (m : Meaning) (l : Ledger) (b : Tables) (law : Law m l b) (n k c lots p
           written_free = omega (arith, lot.written_free, claims_written a c, leg.written_here, W_here);
         })
         (record {
-          bought = leg.keeps_bought _ ∙ lot_other.bought;
-          written = leg.keeps_written _ ∙ lot_other.written ∙ sym W_other;
-          locked_bought = leg.unlocks_bought _ ∙ omega (arith, lot_other.locked_bought, claims_bought a leg.other, leg.bought_other);
-          locked_written = leg.unlocks_written _ ∙ omega (arith, lot_other.locked_written, claims_written a leg.other, leg.written_other);
+          bought = (leg.moved _).bought ∙ lot_other.bought;
+          written = (leg.moved _).written ∙ lot_other.written ∙ sym W_other;
+          locked_bought = (leg.moved _).locked_bought ∙ omega (arith, lot_other.locked_bought, claims_bought a leg.other, leg.bought_other);
+          locked_written = (leg.moved _).locked_written ∙ omega (arith, lot_other.locked_written, claims_written a leg.other, leg.written_other);
           bought_free = omega (arith, lot_other.bought_free, claims_bought a leg.other);
           written_free = omega (arith, lot_other.written_free, claims_written a leg.other, W_other);
         })
@@ -152,7 +152,7 @@ module _ (m : Meaning) (l : Ledger) (b : Tables) (law : Law m l b) (n k c lots p
           arith,
           weighed_same (λ z. z.lots * reserve m cs es z.kind z.limit) (λ z. z.lots * reserve m cs ps z.kind z.limit) l'.orders l.next_order
               (numbers_put l.orders l.next_order n (order_less lots order) law.sound.order_numbers)
-              (λ j x s. ap (λ z. x.lots * z) (reserve_stays ps es x.account m cs x.kind x.limit (named_stays j x s) (legs_left m l b law n lots order part j x s))),
+              (λ j x s. ap (λ z. x.lots * z) ((order_stays ps es x.account m cs x.kind x.limit (named_stays j x s) (legs_left m l b law n lots order part j x s)).1)),
           ap (λ z. lots * leg_close_reserve m cs c limit z) stands,
           reserves_left m l b law n lots order part,
         )
@@ -182,7 +182,7 @@ module _ (m : Meaning) (l : Ledger) (b : Tables) (law : Law m l b) (n k c lots p
               (λ h. omega (arith, less_engaged j, cond-true (eqb k j) lots 0 (eq-eqb k j h.0), ap (engaged l) h.0, ap (λ (z : Pairing). z.lots) h.2, law.sound.engaged_most k p stands))
               (λ h. omega (arith, less_engaged j, law.sound.engaged_most j q h.1))
               (pair_less_parts ps l.next_combination k lots j p q law.sound.combination_numbers stands s);
-          legs = λ j x s. leg_stays ps es x.account x.kind (named_stays j x s) (legs_left m l b law n lots order part j x s);
+          legs = λ j x s. (order_stays ps es x.account m cs x.kind x.limit (named_stays j x s) (legs_left m l b law n lots order part j x s)).0;
           held = held_left;
           reserved = reserves_less;
           written_most = at_one (λ x y. W x y ≤ l.written x y + 0) a c (omega (arith, W_here)) (λ x y off. omega (arith, W_else x y off));

@@ -23,24 +23,15 @@ abbrev pub NamedStays : List (Entry Pairing) → List (Entry Pairing) → OrderK
 NamedStays ps es kind = (j y : ℕ) → kind ≡ LegClose j y → Stays ps es j
 
 module _ (ps es : List (Entry Pairing)) (a : ℕ) where
-  pub leg_stays : (kind : OrderKind) → NamedStays ps es kind → LegStands ps a kind → LegStands es a kind
-  leg_stays (SellOpen x) stays g = g
-  leg_stays (BuyOpen x) stays g = g
-  leg_stays (BuyClose x) stays g = g
-  leg_stays (SellClose x) stays g = g
-  leg_stays (LegClose j y) stays g =
+  pub order_stays : (m : Meaning) (cs : List Contract) (kind : OrderKind) (limit : ℕ) → NamedStays ps es kind → LegStands ps a kind → LegStands es a kind × (reserve m cs es kind limit ≡ reserve m cs ps kind limit)
+  order_stays m cs (SellOpen x) limit stays g = (g, refl)
+  order_stays m cs (BuyOpen x) limit stays g = (g, refl)
+  order_stays m cs (BuyClose x) limit stays g = (g, refl)
+  order_stays m cs (SellClose x) limit stays g = (g, refl)
+  order_stays m cs (LegClose j y) limit stays g =
       let g' : LegOf ps a j y = g in
       let s = stays j y refl g'.combination g'.stands in
-      record { combination = pair_lots s.0 g'.combination; stands = s.1; account = g'.account; leg = g'.leg }
-
-  pub reserve_stays : (m : Meaning) (cs : List Contract) (kind : OrderKind) (limit : ℕ) → NamedStays ps es kind → LegStands ps a kind → reserve m cs es kind limit ≡ reserve m cs ps kind limit
-  reserve_stays m cs (SellOpen x) limit stays g = refl
-  reserve_stays m cs (BuyOpen x) limit stays g = refl
-  reserve_stays m cs (BuyClose x) limit stays g = refl
-  reserve_stays m cs (SellClose x) limit stays g = refl
-  reserve_stays m cs (LegClose j y) limit stays g =
-      let g' : LegOf ps a j y = g in
-      ap (leg_close_reserve m cs y limit) (stays j y refl g'.combination g'.stands).1 ∙ ap (leg_close_reserve m cs y limit) (sym g'.stands)
+      (record { combination = pair_lots s.0 g'.combination; stands = s.1; account = g'.account; leg = g'.leg }, ap (leg_close_reserve m cs y limit) s.1 ∙ ap (leg_close_reserve m cs y limit) (sym g'.stands))
 
 -- a new combination leaves those that stand
 pub added_stays : (ps : List (Entry Pairing)) (next : ℕ) (p : Pairing) (j : ℕ) → Numbers ps next → Stays ps (record { number = next; content = p } ∷ ps) j

@@ -27,10 +27,7 @@ pub record OtherLeg (m : Meaning) (b : Tables) (p : Pairing) (code lots : ℕ) :
   pub unlocked : (eng : ℕ) (to : Tables) → other_unlocked b (combination_with eng p) code lots to ≡ at p.account other move to
   pub freed_written : ℕ
   pub freed_bought : ℕ
-  pub keeps_bought : (q : Position) → (move q).bought ≡ q.bought
-  pub keeps_written : (q : Position) → (move q).written ≡ q.written
-  pub unlocks_bought : (q : Position) → (move q).locked_bought ≡ q.locked_bought - freed_bought
-  pub unlocks_written : (q : Position) → (move q).locked_written ≡ q.locked_written - freed_written
+  pub moved : (q : Position) → Relocked q (move q) (q.locked_bought - freed_bought) (q.locked_written - freed_written)
   pub written_here : written_claim p.account code (pair_lots lots p) ≡ lots
   pub bought_here : bought_claim p.account code (pair_lots lots p) ≡ 0
   pub written_other : written_claim p.account other (pair_lots lots p) ≡ freed_written
@@ -51,7 +48,6 @@ module _ (m : Meaning) (b : Tables) (p : Pairing) (fitted : Fitted (contracts_of
   close_second : OtherLeg m b p p.second lots
   close_second =
       let t : Bool = first_written p.strategy in
-      let unlocks : (q : Position) → Relocked q (unlock_first p.strategy lots q) (q.locked_bought - cond t 0 lots) (q.locked_written - when t lots) = first_unlocked t lots in
       record {
         other = p.first;
         contract = fitted.first;
@@ -61,10 +57,7 @@ module _ (m : Meaning) (b : Tables) (p : Pairing) (fitted : Fitted (contracts_of
         unlocked = λ eng to. cond-true _ _ _ (eq-eqb p.second p.second refl);
         freed_written = when t lots;
         freed_bought = cond t 0 lots;
-        keeps_bought = λ q. (unlocks q).bought;
-        keeps_written = λ q. (unlocks q).written;
-        unlocks_bought = λ q. (unlocks q).locked_bought;
-        unlocks_written = λ q. (unlocks q).locked_written;
+        moved = first_unlocked t lots;
         written_here = two.written_second;
         bought_here = two.bought_second;
         written_other = two.written_first;
@@ -85,10 +78,7 @@ module _ (m : Meaning) (b : Tables) (p : Pairing) (fitted : Fitted (contracts_of
     unlocked = λ eng to. cond-false _ _ _ (ne_eqb p.first p.second two.apart);
     freed_written = lots;
     freed_bought = 0;
-    keeps_bought = λ q. refl;
-    keeps_written = λ q. refl;
-    unlocks_bought = λ q. omega arith;
-    unlocks_written = λ q. refl;
+    moved = λ q. record { bought = refl; written = refl; locked_bought = omega arith; locked_written = refl };
     written_here = two.written_first ∙ cond-true _ _ _ w;
     bought_here = two.bought_first ∙ cond-true _ _ _ w;
     written_other = two.written_second;

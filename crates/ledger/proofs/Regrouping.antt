@@ -17,7 +17,7 @@ use Rattle.ledger.specs.CombinationRules.{margins_moved}
 use Rattle.ledger.specs.Runs.{Law, SoundOrder, SoundCombination, Numbers}
 use Rattle.ledger.proofs.Entries.{weighed_same}
 use Rattle.ledger.proofs.Moved.{AllLots}
-use Rattle.ledger.proofs.Legs.{NamedStays, leg_stays, reserve_stays}
+use Rattle.ledger.proofs.Legs.{NamedStays, order_stays}
 
 abbrev pub regrouped : List (Entry Pairing) → ℕ → Ledger → Ledger
 regrouped es next l = record { came_in = l.came_in; went_out = l.went_out; bought = l.bought; written = l.written; combinations = es; orders = l.orders; next_combination = next; next_order = l.next_order }
@@ -49,8 +49,7 @@ module _ (m : Meaning) (l : Ledger) (b : Tables) (law : Law m l b) (es : List (E
 
   pub regrouped_keeps : Regrouped m l l' b b' back taken → Law m l' b'
   regrouped_keeps new =
-      let leg : (j : ℕ) (x : Order) (s : under l.orders j ≡ Some x) → reserve m (contracts_of b) l.combinations x.kind x.limit ≡ reserve m (contracts_of b) es x.kind x.limit
-      = λ j x s. sym (reserve_stays l.combinations es x.account m (contracts_of b) x.kind x.limit (new.stays j x s) (law.sound.orders j x s).leg) in
+      let order = λ (j : ℕ) (x : Order) (s : under l.orders j ≡ Some x). order_stays l.combinations es x.account m (contracts_of b) x.kind x.limit (new.stays j x s) (law.sound.orders j x s).leg in
       record {
         beside = record {
           cash = law.beside.cash;
@@ -62,7 +61,7 @@ module _ (m : Meaning) (l : Ledger) (b : Tables) (law : Law m l b) (es : List (E
           held = omega (arith, law.beside.held, new.held);
           reserved = law.beside.reserved
               ∙ weighed_same (λ z. z.lots * reserve m (contracts_of b) l.combinations z.kind z.limit) (λ z. z.lots * reserve m (contracts_of b) es z.kind z.limit) l.orders l.next_order law.sound.order_numbers
-              (λ j x s. ap (λ z. x.lots * z) (leg j x s));
+              (λ j x s. ap (λ z. x.lots * z) (sym (order j x s).1));
           sum = omega (arith, law.beside.sum, law.beside.held, new.held, new.enough);
         };
         sound = record {
@@ -76,7 +75,7 @@ module _ (m : Meaning) (l : Ledger) (b : Tables) (law : Law m l b) (es : List (E
           combinations = new.sound;
           orders = λ j x s.
               let old : SoundOrder (contracts_of b) l.combinations x = law.sound.orders j x s in
-              record { account = old.account; contract = old.contract; lots = old.lots; limit = old.limit; leg = leg_stays l.combinations es x.account x.kind (new.stays j x s) old.leg };
+              record { account = old.account; contract = old.contract; lots = old.lots; limit = old.limit; leg = (order j x s).0 };
           engaged_most = new.engaged_most;
           combination_rows = new.apart;
           order_rows = law.sound.order_rows;
