@@ -49,16 +49,16 @@ cash_moved m l b balance cash came went law sum total most = record {
   };
 }
 
-pub deposit_stays : (m : Meaning) (b : Tables) (amount : ℕ) → Stays m b (call.Deposit amount) (DepositRule b amount)
-deposit_stays m b amount l x after law h =
+pub deposit_stays : (m : Meaning) (b : Tables) (amount : ℕ) → Stays m b (call.Deposit amount)
+deposit_stays m b amount x after h l law =
     let u = unmet (deposit_tests b amount) h.0 in
     let most : b.funds.cash + amount ≤ 10 ^ 17 = ltb-false (10 ^ 17) (b.funds.cash + amount) u.1.0 in
-    subst (λ z. Law m (cash_in amount l) z) (sym h.1.0)
-    (cash_moved m l b (b.funds.balance + amount) (b.funds.cash + amount) (l.came_in + amount) l.went_out law (omega (arith, law.beside.sum)) (omega (arith, law.beside.cash)) most)
+    (tt, subst (λ z. Law m (cash_in amount l) z) (sym h.1.0)
+    (cash_moved m l b (b.funds.balance + amount) (b.funds.cash + amount) (l.came_in + amount) l.went_out law (omega (arith, law.beside.sum)) (omega (arith, law.beside.cash)) most))
 
-pub withdraw_stays : (m : Meaning) (b : Tables) (amount : ℕ) → Stays m b (call.Withdraw amount) (WithdrawRule b amount)
-withdraw_stays m b amount l x after law h =
+pub withdraw_stays : (m : Meaning) (b : Tables) (amount : ℕ) → Stays m b (call.Withdraw amount)
+withdraw_stays m b amount x after h l law =
     let u = unmet (withdraw_tests b amount) h.0 in
     let enough : amount ≤ b.funds.balance = ltb-false b.funds.balance amount u.1.0 in
-    subst (λ z. Law m (cash_out amount l) z) (sym h.1.0)
-    (cash_moved m l b (b.funds.balance - amount) (b.funds.cash - amount) l.came_in (l.went_out + amount) law (omega (arith, law.beside.sum)) (omega (arith, law.beside.sum, law.beside.cash)) (omega (arith, law.sound.cash, law.beside.cash)))
+    (tt, subst (λ z. Law m (cash_out amount l) z) (sym h.1.0)
+    (cash_moved m l b (b.funds.balance - amount) (b.funds.cash - amount) l.came_in (l.went_out + amount) law (omega (arith, law.beside.sum)) (omega (arith, law.beside.sum, law.beside.cash)) (omega (arith, law.sound.cash, law.beside.cash))))

@@ -11,7 +11,6 @@ use Rattle.margin.specs.ByCode.{by_code}
 use Rattle.margin.specs.declared.contract.Contract.{Contract}
 use Rattle.margin.specs.declared.strategy.Strategy.{Strategy}
 use Rattle.margin.specs.Fits.{fits}
-use Rattle.margin.specs.Strategies.{first_written}
 use Rattle.ledger.specs.declared.call.Call.TheVariants as call
 use Rattle.ledger.specs.declared.order.Order.{Order}
 use Rattle.ledger.specs.declared.order.OrderKind.{OrderKind}
@@ -26,7 +25,7 @@ use Rattle.ledger.specs.Moves.{at, lock_first, locking_written, free_first, free
 use Rattle.ledger.specs.CombinationRules.{margins_moved, fit_together, combine_tests, CombineRule}
 use Rattle.ledger.specs.Runs.{Law, LegOf, LegStands, Fitted, SoundCombination}
 use Rattle.ledger.specs.Amounts.{pair_per_lot, legs_per_lot, pair_margin}
-use Rattle.margin.specs.Strategies.{strategy_of}
+use Rattle.margin.specs.Strategies.{first_written, strategy_of}
 use Rattle.ledger.proofs.Tests.{Stays, unmet, within, met_of, stands_as, unmet_at}
 use Rattle.ledger.proofs.Entries.{weighed_cons, weighed_none, under_above, under_parts, under_within}
 use Rattle.ledger.proofs.Moved.{AllLots, lots_moved_twice}
@@ -177,8 +176,8 @@ module _ (m : Meaning) (l : Ledger) (b : Tables) (law : Law m l b) (p : Pairing)
       enough = enough;
     })
 
-pub combine_stays : (m : Meaning) (b : Tables) (a strategy first second lots : ℕ) → Stays m b (call.Combine a strategy first second lots) (CombineRule m b a strategy first second lots)
-combine_stays m b a strategy first second lots l x after law h =
+pub combine_stays : (m : Meaning) (b : Tables) (a strategy first second lots : ℕ) → Stays m b (call.Combine a strategy first second lots)
+combine_stays m b a strategy first second lots x after h l law =
     let u = unmet (combine_tests m b (strategy_of strategy) a first second lots) h.0 in
     let met = met_of (strategy_of strategy) _ (not-false _ u.1.1.1.0) in
     let s : Strategy = met.0 in
@@ -188,7 +187,7 @@ combine_stays m b a strategy first second lots l x after law h =
     let enough = unmet_at _ found u.1.1.1.1.1.0 in
     let taken = stands_as _ found h.1 in
     let p : Pairing = record { account = a; strategy = s; first = first; second = second; lots = lots } in
-    subst (λ z. Law m (combined a z first second lots l) after) (sym found)
+    ((s, found), subst (λ z. Law m (combined a z first second lots l) after) (sym found)
     (subst (λ z. Law m (combined a (Some s) first second lots l) z) (sym taken.1.1.0)
     (grouped_keeps m l b law p (within 1 8 a u.0) (within 1 1000 lots u.1.1.0).0 (record { first = fit.0; second = fit.1; first_listed = fit.2; second_listed = fit.3; fit = fit.4 })
-    (ltb-false _ _ (or_parts _ _ free).0) (ltb-false _ _ (or_parts _ _ free).1) (ltb-false _ _ enough) (ltb-false (2 ^ 32 - 1) (next_of b.combination_series) u.1.1.1.1.1.1.1.0) taken.0 taken.1.0))
+    (ltb-false _ _ (or_parts _ _ free).0) (ltb-false _ _ (or_parts _ _ free).1) (ltb-false _ _ enough) (ltb-false (2 ^ 32 - 1) (next_of b.combination_series) u.1.1.1.1.1.1.1.0) taken.0 taken.1.0)))

@@ -24,7 +24,7 @@ use Rattle.ledger.specs.OrderRules.{OrderTaken}
 use Rattle.ledger.specs.CombinationRules.{written_leg, leg_close_tests, LegCloseRule}
 use Rattle.ledger.specs.Moves.{combinations_to}
 use Rattle.ledger.specs.Runs.{Law}
-use Rattle.ledger.proofs.Tests.{Stays, unmet, within, some_of, stands_as, unmet_at}
+use Rattle.ledger.proofs.Tests.{Stays, standing_at, unmet, within, some_of, stands_as, unmet_at}
 use Rattle.ledger.proofs.Entries.{weighed_cons}
 use Rattle.ledger.proofs.Moved.{all_alike}
 use Rattle.ledger.proofs.Entering.{entered_keeps}
@@ -71,8 +71,8 @@ module _ (m : Meaning) (b : Tables) (n code lots limit : ℕ) where
       })
       taken
 
-  pub leg_close_stays : Stays m b (call.LegClose n code lots limit) (LegCloseRule m b n code lots limit)
-  leg_close_stays l x after law h =
+  pub leg_close_stays : Stays m b (call.LegClose n code lots limit)
+  leg_close_stays x after h l law =
       let k : Option Combination = lookup b.combinations n in
       let u = unmet (leg_close_tests m b k code lots limit) h.0 in
       let c = some_of (by_code (contracts_of b) code) u.0 in
@@ -80,7 +80,8 @@ module _ (m : Meaning) (b : Tables) (n code lots limit : ℕ) where
       let p : Pairing = q.0 in
       let legged = unmet_at _ q.2 u.1.1.1.1.0 in
       let free = unmet_at _ q.2 u.1.1.1.1.1.0 in
+      let few : lots ≤ p.lots - engaged l n = ltb-false _ _ free in
       let enough = unmet_at _ q.2 u.1.1.1.1.1.1.0 in
-      subst (λ z. Law m (order_entered (record { account = account_of z; kind = LegClose n code; lots = lots; limit = limit }) l) after) (sym q.1)
+      (standing_at (λ (z : Pairing). lots ≤ z.lots) q.1 (omega arith), subst (λ z. Law m (order_entered (record { account = account_of z; kind = LegClose n code; lots = lots; limit = limit }) l) after) (sym q.1)
       (engaged_keeps l p c.0 (Ok x) after law q.1 c.1 (within 1 1000 lots u.1.0) (within 1 (10 ^ 7) limit u.1.1.0)
-      (not-false _ (or_parts _ _ legged).1) (ltb-false _ _ free) (ltb-false _ _ enough) (ltb-false (2 ^ 32 - 1) (next_of b.order_series) u.1.1.1.1.1.1.1.1.0) (stands_as _ q.2 h.1))
+      (not-false _ (or_parts _ _ legged).1) few (ltb-false _ _ enough) (ltb-false (2 ^ 32 - 1) (next_of b.order_series) u.1.1.1.1.1.1.1.1.0) (stands_as _ q.2 h.1)))

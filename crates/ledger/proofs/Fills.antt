@@ -19,8 +19,8 @@ use Rattle.ledger.specs.Amounts.{leg_close_reserve}
 use Rattle.ledger.specs.Tests.{is_none}
 use Rattle.ledger.specs.FillRules.{traded, leg_traded, freed, disengaged, reserve_per_lot, leg_reserve, fill_funds, filled_funds, flow, leg_flow, fill_tests, FillRule, CancelRule}
 use Rattle.ledger.specs.Moves.{order_rest, orders_to, funds_to, combinations_to, combination_rest, at, writing, buying, closing_bought, closing_written, unlocking_bought, unlocking_written}
-use Rattle.ledger.specs.Runs.{Law, LegOf}
-use Rattle.ledger.proofs.Tests.{Stays, unmet, stands_as, unmet_at}
+use Rattle.ledger.specs.Runs.{Law, LegOf, Fillable}
+use Rattle.ledger.proofs.Tests.{Stays, standing_at, unmet, stands_as, unmet_at}
 use Rattle.ledger.proofs.Shares.{all_gone, all_freed}
 use Rattle.ledger.proofs.Codes.{one_here}
 use Rattle.ledger.proofs.Covered.{flow_covered}
@@ -29,6 +29,7 @@ use Rattle.ledger.proofs.Plain.{returned, stays, freed as unlocked, opened, clos
 use Rattle.ledger.proofs.Engaging.{row_engaged}
 use Rattle.ledger.proofs.Pairings.{combination_with, row_of, order_at}
 use Rattle.ledger.proofs.Others.{OtherLeg, other_of}
+use Rattle.ledger.proofs.Fillable.{fillable}
 use Rattle.ledger.proofs.LegFill.{leg_close_filled}
 
 module _ (m : Meaning) (l : Ledger) (b : Tables) (law : Law m l b) (n : ℕ) where
@@ -160,20 +161,22 @@ module _ (m : Meaning) (l : Ledger) (b : Tables) (law : Law m l b) (n : ℕ) whe
       (λ ne. law.beside.combinations j ∙ ap (λ z. combination_under z (under l.combinations j)) (omega (arith, less j, cond-false _ lots 0 (ne_eqb k j ne)))))
       (apart_changed b.combinations k (combination_with (engaged l k - lots) p) law.sound.combination_rows))
 
-pub fill_stays : (m : Meaning) (b : Tables) (n lots price : ℕ) → Stays m b (call.Fill n lots price) (FillRule m b n lots price)
-fill_stays m b n lots price l x after law h =
+pub fill_stays : (m : Meaning) (b : Tables) (n lots price : ℕ) → Stays m b (call.Fill n lots price)
+fill_stays m b n lots price x after h l law =
     let o : Option Order = lookup b.orders n in
     let u = unmet (fill_tests m b o lots price) h.0 in
     let q = order_at law n u.1.1.0 in
     let z : Order = q.0 in
     let enough = unmet_at _ q.2 u.1.1.1.0 in
+    let few : lots ≤ z.lots = ltb-false _ _ enough in
     let taken' = stands_as _ q.2 h.1 in
+    (standing_at (λ (w : Order). (lots ≤ w.lots) × Fillable l w.account lots w.kind) q.1 (few, fillable m l b law n lots z.kind z.account z.lots z.limit q.1 few),
     subst (λ w. Law m (filled (contracts_of b) n w lots price l) after) (sym q.1)
     (subst (λ w. Law m (filled (contracts_of b) n (Some z) lots price l) w) (sym taken'.0)
-    (filled_as m l b law n lots price z.kind z.account z.lots z.limit (record { stands = q.1; within = ltb-false _ _ enough }) (unmet_at _ q.2 u.1.1.1.1.0) (unmet_at _ q.2 u.1.1.1.1.1.1.0)))
+    (filled_as m l b law n lots price z.kind z.account z.lots z.limit (record { stands = q.1; within = few }) (unmet_at _ q.2 u.1.1.1.1.0) (unmet_at _ q.2 u.1.1.1.1.1.1.0))))
 
-pub cancel_stays : (m : Meaning) (b : Tables) (n : ℕ) → Stays m b (call.Cancel n) (CancelRule m b n)
-cancel_stays m b n l x after law h =
+pub cancel_stays : (m : Meaning) (b : Tables) (n : ℕ) → Stays m b (call.Cancel n)
+cancel_stays m b n x after h l law =
     let o : Option Order = lookup b.orders n in
     let u = unmet ((16, is_none o) ∷ []) h.0 in
     let q = order_at law n u.0 in
@@ -183,5 +186,5 @@ cancel_stays m b n l x after law h =
     = cancelled_as m l b law n z.kind z.account z.lots z.limit (record { stands = q.1; within = omega arith }) in
     let law₂ : Law m (ledger_orders_to (put n None l.orders) l) (cancelled_then m l b law n z (order_rest n z.lots z b.orders))
     = subst (λ w. Law m (ledger_orders_to (put n w l.orders) l) (cancelled_then m l b law n z (order_rest n z.lots z b.orders))) (all_gone z) law' in
-    subst (λ w. Law m (ledger_orders_to (put n None l.orders) l) w) (sym taken'.0)
-    (subst (λ w. Law m (ledger_orders_to (put n None l.orders) l) (cancelled_then m l b law n z w)) (all_freed b.orders n z) law₂)
+    ((z, q.1), subst (λ w. Law m (ledger_orders_to (put n None l.orders) l) w) (sym taken'.0)
+    (subst (λ w. Law m (ledger_orders_to (put n None l.orders) l) (cancelled_then m l b law n z w)) (all_freed b.orders n z) law₂))

@@ -18,7 +18,7 @@ use Rattle.ledger.specs.Moves.{at, unlock_first, unlocking_written, combination_
 use Rattle.ledger.specs.CombinationRules.{released, release_tests, ReleaseRule}
 use Rattle.ledger.specs.Runs.{Law, Fitted, SoundCombination}
 use Rattle.ledger.specs.Amounts.{pair_per_lot, legs_per_lot, pair_margin}
-use Rattle.ledger.proofs.Tests.{Stays, unmet, within, stands_as, unmet_at}
+use Rattle.ledger.proofs.Tests.{Stays, standing_at, unmet, within, stands_as, unmet_at}
 use Rattle.ledger.proofs.Entries.{weighed_part, numbers_put}
 use Rattle.ledger.proofs.Moved.{AllLots, lots_moved_twice}
 use Rattle.ledger.proofs.Pairings.{combination_with, row_of, combination_at, pair_lots, pairs_less, written_claim_by, bought_claim_by, pair_margin_by, rows_less, sound_less, apart_pair_rest, pair_less_parts}
@@ -126,15 +126,16 @@ module _ (m : Meaning) (l : Ledger) (b : Tables) (law : Law m l b) (n lots : ℕ
     enough = enough;
   })
 
-pub release_stays : (m : Meaning) (b : Tables) (n lots : ℕ) → Stays m b (call.Release n lots) (ReleaseRule m b n lots)
-release_stays m b n lots l x after law h =
+pub release_stays : (m : Meaning) (b : Tables) (n lots : ℕ) → Stays m b (call.Release n lots)
+release_stays m b n lots x after h l law =
     let k : Option Combination = lookup b.combinations n in
     let u = unmet (release_tests m b k lots) h.0 in
     let q = combination_at law n u.1.0 in
     let p : Pairing = q.0 in
     let free = unmet_at _ q.2 u.1.1.0 in
+    let few : lots ≤ p.lots - engaged l n = ltb-false _ _ free in
     let enough = unmet_at _ q.2 u.1.1.1.0 in
     let taken = stands_as _ q.2 h.1 in
-    subst (λ z. Law m (combination_less n lots z l) after) (sym q.1)
+    (standing_at (λ (z : Pairing). lots ≤ z.lots) q.1 (omega arith), subst (λ z. Law m (combination_less n lots z l) after) (sym q.1)
     (subst (λ z. Law m (combination_less n lots (Some p) l) z) (sym taken.0)
-    (ungrouped_keeps m l b law n lots p q.1 (within 1 1000 lots u.0).0 (ltb-false _ _ free) (ltb-false _ _ enough)))
+    (ungrouped_keeps m l b law n lots p q.1 (within 1 1000 lots u.0).0 few (ltb-false _ _ enough))))

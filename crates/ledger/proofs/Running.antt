@@ -10,7 +10,6 @@ use Rattle.ledger.specs.Runs.{Law, Event, ByTheRules, Run, fed, LawAlong, start,
 use Rattle.ledger.specs.Keeps.{ContractsStay, CallsKeep, RunLaw, DayLaw}
 use Rattle.ledger.proofs.Tests.{Stays}
 use Rattle.ledger.proofs.Answered.{refused, same_contracts}
-use Rattle.ledger.proofs.Enterable.{by_acceptance}
 use Rattle.ledger.proofs.Opening.{opening_law}
 use Rattle.ledger.proofs.Cash.{deposit_stays, withdraw_stays}
 use Rattle.ledger.proofs.Orders.{sell_open_stays, buy_open_stays, buy_close_stays, sell_close_stays}
@@ -24,21 +23,21 @@ pub contracts_stay : ContractsStay
 contracts_stay m b c (Ok x) after h = same_contracts m b c x after h
 contracts_stay m b c (Err e) after h = ap contracts_of (refused m b c e after h)
 
-calls_stay : (m : Meaning) (b : Tables) (c : Call) → Stays m b c (ByTheRules m b c)
-calls_stay m b (call.Deposit amount) l x after law h = deposit_stays m b amount l x after law h
-calls_stay m b (call.Withdraw amount) l x after law h = withdraw_stays m b amount l x after law h
-calls_stay m b (call.SellOpen account contract lots limit) l x after law h = sell_open_stays m b account contract lots limit l x after law h
-calls_stay m b (call.BuyOpen account contract lots limit) l x after law h = buy_open_stays m b account contract lots limit l x after law h
-calls_stay m b (call.BuyClose account contract lots limit) l x after law h = buy_close_stays m b account contract lots limit l x after law h
-calls_stay m b (call.SellClose account contract lots limit) l x after law h = sell_close_stays m b account contract lots limit l x after law h
-calls_stay m b (call.LegClose combination leg lots limit) l x after law h = leg_close_stays m b combination leg lots limit l x after law h
-calls_stay m b (call.Fill order lots price) l x after law h = fill_stays m b order lots price l x after law h
-calls_stay m b (call.Cancel order) l x after law h = cancel_stays m b order l x after law h
-calls_stay m b (call.Combine account strategy first second lots) l x after law h = combine_stays m b account strategy first second lots l x after law h
-calls_stay m b (call.Release combination lots) l x after law h = release_stays m b combination lots l x after law h
+accepted_keeps : (m : Meaning) (b : Tables) (c : Call) → Stays m b c
+accepted_keeps m b (call.Deposit amount) = deposit_stays m b amount
+accepted_keeps m b (call.Withdraw amount) = withdraw_stays m b amount
+accepted_keeps m b (call.SellOpen account contract lots limit) = sell_open_stays m b account contract lots limit
+accepted_keeps m b (call.BuyOpen account contract lots limit) = buy_open_stays m b account contract lots limit
+accepted_keeps m b (call.BuyClose account contract lots limit) = buy_close_stays m b account contract lots limit
+accepted_keeps m b (call.SellClose account contract lots limit) = sell_close_stays m b account contract lots limit
+accepted_keeps m b (call.LegClose combination leg lots limit) = leg_close_stays m b combination leg lots limit
+accepted_keeps m b (call.Fill order lots price) = fill_stays m b order lots price
+accepted_keeps m b (call.Cancel order) = cancel_stays m b order
+accepted_keeps m b (call.Combine account strategy first second lots) = combine_stays m b account strategy first second lots
+accepted_keeps m b (call.Release combination lots) = release_stays m b combination lots
 
 pub calls_keep : CallsKeep
-calls_keep m b c (Ok x) after h l law = (by_acceptance m b c l x after law h, calls_stay m b c l x after law h)
+calls_keep m b c (Ok x) after h = accepted_keeps m b c x after h
 calls_keep m b c (Err e) after h l law = (tt, subst (λ z. Law m l z) (sym (refused m b c e after h)) law)
 
 -- a run, and one call more

@@ -1,12 +1,11 @@
 -- The tests of the rules, where none is met.
-use Rattle.std.proofs.Common.{◌≡◌, ℕ, ◌≤◌, Bool, true, false, List, [], ◌∷◌, ◌++◌, Some, None, Ok, Option, refl, subst, arith}
+use Rattle.std.proofs.Common.{◌≡◌, ℕ, ◌≤◌, Bool, true, false, List, [], ◌∷◌, ◌++◌, Some, None, Ok, Option, sym, refl, subst, arith}
 use Rattle.std.proofs.lemmas.Bool.Decides.{nat_tests}
 use Rattle.ledger.specs.declared.call.Call.{Call}
 use Rattle.ledger.specs.declared.tables.Tables.{Tables}
 use Rattle.margin.specs.Meaning.{Meaning}
-use Rattle.ledger.specs.Ledger.{Ledger, entered}
-use Rattle.ledger.specs.Law.{contracts_of}
-use Rattle.ledger.specs.Runs.{Law}
+use Rattle.ledger.specs.Runs.{ByTheRules}
+use Rattle.ledger.specs.Keeps.{KeptBy}
 use Rattle.ledger.specs.Tests.{Answer, first_met, outside, is_none, Standing, meets}
 
 none_met : (n : ℕ) (t : Bool) (xs : List (ℕ × Bool)) → first_met ((n, t) ∷ xs) ≡ None → (t ≡ false) × (first_met xs ≡ None)
@@ -34,9 +33,9 @@ pub met_back : (xs ys : List (ℕ × Bool)) → first_met xs ≡ None → first_
 met_back [] ys e = refl
 met_back (x ∷ xs) ys e = let rest = met_back xs ys in grind arith
 
--- what is shown of each call first: accepted, it leaves the law
-abbrev pub Stays : Meaning → Tables → Call → (Answer → Tables → Type 0) → Type 0
-Stays m b c rule = (l : Ledger) (x : ℕ × ℕ) (after : Tables) → Law m l b → rule (Ok x) after → Law m (entered (contracts_of b) c l) after
+-- what is shown of each call: accepted, the ledger can take it, and keeps the law with it
+abbrev pub Stays : Meaning → Tables → Call → Type 0
+Stays m b c = (x : ℕ × ℕ) (after : Tables) → ByTheRules m b c (Ok x) after → KeptBy m b c (Ok x) after
 
 pub within : (low high x : ℕ) → outside low high x ≡ false → (low ≤ x) × (x ≤ high)
 within low high x p = grind (arith, nat_tests)
@@ -53,6 +52,9 @@ met_of None test p = absurd cc
 met_of (Some x) test p = (x, (refl, p))
 
 -- a statement and a test of what stands, where that is known
+pub standing_at : {T : Type 0} {o : Option T} {x : T} (P : T → Type 0) → o ≡ Some x → P x → Standing o P
+standing_at P e h = subst (λ y. Standing y P) (sym e) h
+
 pub stands_as : {T : Type 0} {o : Option T} {x : T} (P : T → Type 0) → o ≡ Some x → Standing o P → P x
 stands_as P e h = subst (λ y. Standing y P) e h
 

@@ -1,4 +1,4 @@
--- A call that is accepted is one that the ledger can take.
+-- What a fill takes is owned.
 use Rattle.std.proofs.Common.{◌≡◌, ℕ, ◌-◌, ◌≤◌, cond, eqb, [], ◌∷◌, Some, Ok, Option, sym, refl, subst, ⊎_elim, arith}
 use Rattle.std.proofs.lemmas.Bool.{ltb-false, cond-true, eq-eqb, not-false}
 use Rattle.register.specs.Rows.{lookup}
@@ -20,12 +20,9 @@ use Rattle.ledger.specs.CombinationRules.{release_tests, leg_close_tests, combin
 use Rattle.ledger.specs.Runs.{Law, ByTheRules, Enterable, Fillable, LegOf, SoundOrder, SoundCombination}
 use Rattle.ledger.proofs.Codes.{one_here}
 use Rattle.ledger.proofs.Entries.{weighed_part}
-use Rattle.ledger.proofs.Tests.{unmet, met_of, unmet_at}
+use Rattle.ledger.proofs.Tests.{standing_at}
 use Rattle.ledger.proofs.Pairings.{leg_parts, combination_at, order_at}
 use Rattle.ledger.proofs.Claims.{two_legs}
-
-standing_at : {T : Type 0} {o : Option T} {x : T} (P : T → Type 0) → o ≡ Some x → P x → Standing o P
-standing_at P e h = subst (λ y. Standing y P) (sym e) h
 
 module _ (m : Meaning) (l : Ledger) (b : Tables) (law : Law m l b) where
   module _ (n lots : ℕ) where
@@ -42,7 +39,7 @@ module _ (m : Meaning) (l : Ledger) (b : Tables) (law : Law m l b) where
         let lot : Lots l a c (position_of b a c) = law.beside.lots a c fit.contract.0 fit.account.0 fit.account.1 fit.contract.1 in
         (omega (arith, lot.written_free, weighed_part (λ z. closes_written a c z z.kind) l.orders n o stands), omega (arith, lot.bought_free, weighed_part (λ z. closes_bought a c z z.kind) l.orders n o stands))
 
-    fillable : (kind : OrderKind) (a whole limit : ℕ) → under l.orders n ≡ Some (made a kind whole limit) → lots ≤ whole → Fillable l a lots kind
+    pub fillable : (kind : OrderKind) (a whole limit : ℕ) → under l.orders n ≡ Some (made a kind whole limit) → lots ≤ whole → Fillable l a lots kind
     fillable (SellOpen c) a whole limit stands within = tt
     fillable (BuyOpen c) a whole limit stands within = tt
     fillable (BuyClose c) a whole limit stands within = omega (arith, (closes_owned (made a (BuyClose c) whole limit) stands).0, one_here a c whole 0)
@@ -64,44 +61,3 @@ module _ (m : Meaning) (l : Ledger) (b : Tables) (law : Law m l b) where
         omega (arith, few, lot.written_free, two.written_first, cond-true _ p.lots 0 e.0, weighed_part (written_claim p.account p.first) l.combinations k p g.stands)))
         (leg_parts p c g.leg) in
         (subst (λ z. lots ≤ l.written z c) g.account owned, standing_at (λ (z : Pairing). lots ≤ z.lots) g.stands few)
-
-pub by_acceptance : (m : Meaning) (b : Tables) (c : Call) (l : Ledger) (x : ℕ × ℕ) (after : Tables) → Law m l b → ByTheRules m b c (Ok x) after → Enterable c l
-by_acceptance m b (call.Deposit amount) l x after law h = tt
-by_acceptance m b (call.Withdraw amount) l x after law h = tt
-by_acceptance m b (call.SellOpen account contract lots limit) l x after law h = tt
-by_acceptance m b (call.BuyOpen account contract lots limit) l x after law h = tt
-by_acceptance m b (call.BuyClose account contract lots limit) l x after law h = tt
-by_acceptance m b (call.SellClose account contract lots limit) l x after law h = tt
-by_acceptance m b (call.LegClose n code lots limit) l x after law h =
-    let k : Option Combination = lookup b.combinations n in
-    let u = unmet (leg_close_tests m b k code lots limit) h.0 in
-    let q = combination_at law n u.1.1.1.0 in
-    let p : Pairing = q.0 in
-    let free = unmet_at _ q.2 u.1.1.1.1.1.0 in
-    let few : lots ≤ p.lots - engaged l n = ltb-false _ _ free in
-    standing_at (λ (z : Pairing). lots ≤ z.lots) q.1 (omega arith)
-by_acceptance m b (call.Fill n lots price) l x after law h =
-    let o : Option Order = lookup b.orders n in
-    let u = unmet (fill_tests m b o lots price) h.0 in
-    let q = order_at law n u.1.1.0 in
-    let z : Order = q.0 in
-    let enough = unmet_at _ q.2 u.1.1.1.0 in
-    let few : lots ≤ z.lots = ltb-false _ _ enough in
-    standing_at (λ (w : Order). (lots ≤ w.lots) × Fillable l w.account lots w.kind) q.1 (few, fillable m l b law n lots z.kind z.account z.lots z.limit q.1 few)
-by_acceptance m b (call.Cancel n) l x after law h =
-    let o : Option Order = lookup b.orders n in
-    let u = unmet ((16, is_none o) ∷ []) h.0 in
-    let q = order_at law n u.0 in
-    (q.0, q.1)
-by_acceptance m b (call.Combine a strategy first second lots) l x after law h =
-    let u = unmet (combine_tests m b (strategy_of strategy) a first second lots) h.0 in
-    let met = met_of (strategy_of strategy) _ (not-false _ u.1.1.1.0) in
-    (met.0, met.1.0)
-by_acceptance m b (call.Release n lots) l x after law h =
-    let k : Option Combination = lookup b.combinations n in
-    let u = unmet (release_tests m b k lots) h.0 in
-    let q = combination_at law n u.1.0 in
-    let p : Pairing = q.0 in
-    let free = unmet_at _ q.2 u.1.1.0 in
-    let few : lots ≤ p.lots - engaged l n = ltb-false _ _ free in
-    standing_at (λ (z : Pairing). lots ≤ z.lots) q.1 (omega arith)
