@@ -5,7 +5,7 @@ use Rattle.ledger.specs.declared.call.Call.TheVariants as call
 use Rattle.ledger.specs.declared.tables.Tables.{Tables}
 use Rattle.margin.specs.Meaning.{Meaning}
 use Rattle.ledger.specs.Ledger.{Ledger, cash_in, cash_out}
-use Rattle.ledger.specs.CashRules.{deposit_tests, withdraw_tests, DepositRule, WithdrawRule}
+use Rattle.ledger.specs.CashRules.{deposit_tests, withdraw_tests}
 use Rattle.ledger.specs.Moves.{funds_to}
 use Rattle.ledger.specs.Runs.{Law}
 use Rattle.ledger.proofs.Tests.{Stays, unmet}
@@ -52,13 +52,17 @@ cash_moved m l b balance cash came went law sum total most = record {
 pub deposit_stays : (m : Meaning) (b : Tables) (amount : ℕ) → Stays m b (call.Deposit amount)
 deposit_stays m b amount x after h l law =
     let u = unmet (deposit_tests b amount) h.0 in
-    let most : b.funds.cash + amount ≤ 10 ^ 17 = ltb-false (10 ^ 17) (b.funds.cash + amount) u.1.0 in
-    (tt, subst (λ z. Law m (cash_in amount l) z) (sym h.1.0)
-    (cash_moved m l b (b.funds.balance + amount) (b.funds.cash + amount) (l.came_in + amount) l.went_out law (omega (arith, law.beside.sum)) (omega (arith, law.beside.cash)) most))
+    let most : b.funds.cash + amount ≤ 10 ^ 17 = ltb-false (10 ^ 17) (b.funds.cash + amount) u.1.0 in (
+      tt,
+      subst (λ z. Law m (cash_in amount l) z) (sym h.1.0)
+          (cash_moved m l b (b.funds.balance + amount) (b.funds.cash + amount) (l.came_in + amount) l.went_out law (omega (arith, law.beside.sum)) (omega (arith, law.beside.cash)) most),
+    )
 
 pub withdraw_stays : (m : Meaning) (b : Tables) (amount : ℕ) → Stays m b (call.Withdraw amount)
 withdraw_stays m b amount x after h l law =
     let u = unmet (withdraw_tests b amount) h.0 in
-    let enough : amount ≤ b.funds.balance = ltb-false b.funds.balance amount u.1.0 in
-    (tt, subst (λ z. Law m (cash_out amount l) z) (sym h.1.0)
-    (cash_moved m l b (b.funds.balance - amount) (b.funds.cash - amount) l.came_in (l.went_out + amount) law (omega (arith, law.beside.sum)) (omega (arith, law.beside.sum, law.beside.cash)) (omega (arith, law.sound.cash, law.beside.cash))))
+    let enough : amount ≤ b.funds.balance = ltb-false b.funds.balance amount u.1.0 in (
+      tt,
+      subst (λ z. Law m (cash_out amount l) z) (sym h.1.0)
+          (cash_moved m l b (b.funds.balance - amount) (b.funds.cash - amount) l.came_in (l.went_out + amount) law (omega (arith, law.beside.sum)) (omega (arith, law.beside.sum, law.beside.cash)) (omega (arith, law.sound.cash, law.beside.cash))),
+    )

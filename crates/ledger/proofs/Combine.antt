@@ -22,7 +22,7 @@ use Rattle.ledger.specs.Ledger.{Ledger, Entry, under, combined}
 use Rattle.ledger.specs.Content.{Pairing}
 use Rattle.ledger.specs.Law.{Lots, contracts_of, position_of, when, written_claim, bought_claim, in_combinations, claimed_bought, claimed_written, engages, engaged, combination_under}
 use Rattle.ledger.specs.Moves.{at, lock_first, locking_written, free_first, free_written, free_bought}
-use Rattle.ledger.specs.CombinationRules.{margins_moved, fit_together, combine_tests, CombineRule}
+use Rattle.ledger.specs.CombinationRules.{margins_moved, fit_together, combine_tests}
 use Rattle.ledger.specs.Runs.{Law, LegOf, LegStands, Fitted, SoundCombination}
 use Rattle.ledger.specs.Amounts.{pair_per_lot, legs_per_lot, pair_margin}
 use Rattle.margin.specs.Strategies.{first_written, strategy_of}
@@ -186,8 +186,10 @@ combine_stays m b a strategy first second lots x after h l law =
     let free = unmet_at _ found u.1.1.1.1.0 in
     let enough = unmet_at _ found u.1.1.1.1.1.0 in
     let taken = stands_as _ found h.1 in
-    let p : Pairing = record { account = a; strategy = s; first = first; second = second; lots = lots } in
-    ((s, found), subst (λ z. Law m (combined a z first second lots l) after) (sym found)
-    (subst (λ z. Law m (combined a (Some s) first second lots l) z) (sym taken.1.1.0)
-    (grouped_keeps m l b law p (within 1 8 a u.0) (within 1 1000 lots u.1.1.0).0 (record { first = fit.0; second = fit.1; first_listed = fit.2; second_listed = fit.3; fit = fit.4 })
-    (ltb-false _ _ (or_parts _ _ free).0) (ltb-false _ _ (or_parts _ _ free).1) (ltb-false _ _ enough) (ltb-false (2 ^ 32 - 1) (next_of b.combination_series) u.1.1.1.1.1.1.1.0) taken.0 taken.1.0)))
+    let p : Pairing = record { account = a; strategy = s; first = first; second = second; lots = lots } in (
+      (s, found),
+      subst (λ z. Law m (combined a z first second lots l) after) (sym found)
+          (subst (λ z. Law m (combined a (Some s) first second lots l) z) (sym taken.1.1.0)
+          (grouped_keeps m l b law p (within 1 8 a u.0) (within 1 1000 lots u.1.1.0).0 (record { first = fit.0; second = fit.1; first_listed = fit.2; second_listed = fit.3; fit = fit.4 })
+          (ltb-false _ _ (or_parts _ _ free).0) (ltb-false _ _ (or_parts _ _ free).1) (ltb-false _ _ enough) (ltb-false (2 ^ 32 - 1) (next_of b.combination_series) u.1.1.1.1.1.1.1.0) taken.0 taken.1.0)),
+    )

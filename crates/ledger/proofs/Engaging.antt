@@ -21,7 +21,7 @@ use Rattle.ledger.specs.Law.{contracts_of, engaged, engages, combination_under, 
 use Rattle.ledger.specs.Amounts.{leg_close_reserve}
 use Rattle.ledger.specs.Tests.{Answer}
 use Rattle.ledger.specs.OrderRules.{OrderTaken}
-use Rattle.ledger.specs.CombinationRules.{written_leg, leg_close_tests, LegCloseRule}
+use Rattle.ledger.specs.CombinationRules.{written_leg, leg_close_tests}
 use Rattle.ledger.specs.Moves.{combinations_to}
 use Rattle.ledger.specs.Runs.{Law}
 use Rattle.ledger.proofs.Tests.{Stays, standing_at, unmet, within, some_of, stands_as, unmet_at}
@@ -81,7 +81,9 @@ module _ (m : Meaning) (b : Tables) (n code lots limit : ℕ) where
       let legged = unmet_at _ q.2 u.1.1.1.1.0 in
       let free = unmet_at _ q.2 u.1.1.1.1.1.0 in
       let few : lots ≤ p.lots - engaged l n = ltb-false _ _ free in
-      let enough = unmet_at _ q.2 u.1.1.1.1.1.1.0 in
-      (standing_at (λ (z : Pairing). lots ≤ z.lots) q.1 (omega arith), subst (λ z. Law m (order_entered (record { account = account_of z; kind = LegClose n code; lots = lots; limit = limit }) l) after) (sym q.1)
-      (engaged_keeps l p c.0 (Ok x) after law q.1 c.1 (within 1 1000 lots u.1.0) (within 1 (10 ^ 7) limit u.1.1.0)
-      (not-false _ (or_parts _ _ legged).1) few (ltb-false _ _ enough) (ltb-false (2 ^ 32 - 1) (next_of b.order_series) u.1.1.1.1.1.1.1.1.0) (stands_as _ q.2 h.1)))
+      let enough = unmet_at _ q.2 u.1.1.1.1.1.1.0 in (
+        standing_at (λ (z : Pairing). lots ≤ z.lots) q.1 (omega arith),
+        subst (λ z. Law m (order_entered (record { account = account_of z; kind = LegClose n code; lots = lots; limit = limit }) l) after) (sym q.1)
+            (engaged_keeps l p c.0 (Ok x) after law q.1 c.1 (within 1 1000 lots u.1.0) (within 1 (10 ^ 7) limit u.1.1.0)
+            (not-false _ (or_parts _ _ legged).1) few (ltb-false _ _ enough) (ltb-false (2 ^ 32 - 1) (next_of b.order_series) u.1.1.1.1.1.1.1.1.0) (stands_as _ q.2 h.1)),
+      )

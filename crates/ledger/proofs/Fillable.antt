@@ -1,27 +1,19 @@
 -- What a fill takes is owned.
-use Rattle.std.proofs.Common.{◌≡◌, ℕ, ◌-◌, ◌≤◌, cond, eqb, [], ◌∷◌, Some, Ok, Option, sym, refl, subst, ⊎_elim, arith}
-use Rattle.std.proofs.lemmas.Bool.{ltb-false, cond-true, eq-eqb, not-false}
-use Rattle.register.specs.Rows.{lookup}
-use Rattle.ledger.specs.declared.call.Call.{Call}
-use Rattle.ledger.specs.declared.call.Call.TheVariants as call
+use Rattle.std.proofs.Common.{◌≡◌, ℕ, ◌≤◌, cond, eqb, Some, refl, subst, ⊎_elim, arith}
+use Rattle.std.proofs.lemmas.Bool.{cond-true, eq-eqb}
 use Rattle.ledger.specs.declared.order.Order.{Order}
-use Rattle.ledger.specs.declared.order.Combination.{Combination}
 use Rattle.ledger.specs.declared.order.OrderKind.{OrderKind}
 use Rattle.ledger.specs.declared.order.OrderKind.TheVariants.{SellOpen, BuyOpen, BuyClose, SellClose, LegClose}
 use Rattle.ledger.specs.declared.tables.Tables.{Tables}
 use Rattle.margin.specs.Meaning.{Meaning}
-use Rattle.margin.specs.Strategies.{strategy_of}
 use Rattle.ledger.specs.Ledger.{Ledger, under}
 use Rattle.ledger.specs.Content.{Pairing, contract_of}
-use Rattle.ledger.specs.Law.{Lots, contracts_of, position_of, engaged, engages, closes_written, closes_bought, written_claim}
-use Rattle.ledger.specs.Tests.{Standing, is_none}
-use Rattle.ledger.specs.FillRules.{fill_tests}
-use Rattle.ledger.specs.CombinationRules.{release_tests, leg_close_tests, combine_tests}
-use Rattle.ledger.specs.Runs.{Law, ByTheRules, Enterable, Fillable, LegOf, SoundOrder, SoundCombination}
+use Rattle.ledger.specs.Law.{Lots, contracts_of, position_of, engages, closes_written, closes_bought, written_claim}
+use Rattle.ledger.specs.Runs.{Law, Fillable, LegOf, SoundOrder, SoundCombination}
 use Rattle.ledger.proofs.Codes.{one_here}
 use Rattle.ledger.proofs.Entries.{weighed_part}
 use Rattle.ledger.proofs.Tests.{standing_at}
-use Rattle.ledger.proofs.Pairings.{leg_parts, combination_at, order_at}
+use Rattle.ledger.proofs.Pairings.{leg_parts}
 use Rattle.ledger.proofs.Claims.{two_legs}
 
 module _ (m : Meaning) (l : Ledger) (b : Tables) (law : Law m l b) where

@@ -17,7 +17,7 @@ use Rattle.ledger.specs.Content.{Pairing, sells, contract_of}
 use Rattle.ledger.specs.Law.{contracts_of, reserve, engaged, engages, combination_under, closes_written, closes_bought, when}
 use Rattle.ledger.specs.Amounts.{leg_close_reserve}
 use Rattle.ledger.specs.Tests.{is_none}
-use Rattle.ledger.specs.FillRules.{traded, leg_traded, freed, disengaged, reserve_per_lot, leg_reserve, fill_funds, filled_funds, flow, leg_flow, fill_tests, FillRule, CancelRule}
+use Rattle.ledger.specs.FillRules.{traded, leg_traded, freed, disengaged, reserve_per_lot, leg_reserve, fill_funds, filled_funds, flow, leg_flow, fill_tests}
 use Rattle.ledger.specs.Moves.{order_rest, orders_to, funds_to, combinations_to, combination_rest, at, writing, buying, closing_bought, closing_written, unlocking_bought, unlocking_written}
 use Rattle.ledger.specs.Runs.{Law, LegOf, Fillable}
 use Rattle.ledger.proofs.Tests.{Stays, standing_at, unmet, stands_as, unmet_at}
@@ -169,11 +169,12 @@ fill_stays m b n lots price x after h l law =
     let z : Order = q.0 in
     let enough = unmet_at _ q.2 u.1.1.1.0 in
     let few : lots ≤ z.lots = ltb-false _ _ enough in
-    let taken' = stands_as _ q.2 h.1 in
-    (standing_at (λ (w : Order). (lots ≤ w.lots) × Fillable l w.account lots w.kind) q.1 (few, fillable m l b law n lots z.kind z.account z.lots z.limit q.1 few),
-    subst (λ w. Law m (filled (contracts_of b) n w lots price l) after) (sym q.1)
-    (subst (λ w. Law m (filled (contracts_of b) n (Some z) lots price l) w) (sym taken'.0)
-    (filled_as m l b law n lots price z.kind z.account z.lots z.limit (record { stands = q.1; within = few }) (unmet_at _ q.2 u.1.1.1.1.0) (unmet_at _ q.2 u.1.1.1.1.1.1.0))))
+    let taken' = stands_as _ q.2 h.1 in (
+      standing_at (λ (w : Order). (lots ≤ w.lots) × Fillable l w.account lots w.kind) q.1 (few, fillable m l b law n lots z.kind z.account z.lots z.limit q.1 few),
+      subst (λ w. Law m (filled (contracts_of b) n w lots price l) after) (sym q.1)
+          (subst (λ w. Law m (filled (contracts_of b) n (Some z) lots price l) w) (sym taken'.0)
+          (filled_as m l b law n lots price z.kind z.account z.lots z.limit (record { stands = q.1; within = few }) (unmet_at _ q.2 u.1.1.1.1.0) (unmet_at _ q.2 u.1.1.1.1.1.1.0))),
+    )
 
 pub cancel_stays : (m : Meaning) (b : Tables) (n : ℕ) → Stays m b (call.Cancel n)
 cancel_stays m b n x after h l law =
@@ -185,6 +186,8 @@ cancel_stays m b n x after h l law =
     let law' : Law m (ledger_orders_to (put n (order_less z.lots z) l.orders) l) (cancelled_then m l b law n z (order_rest n z.lots z b.orders))
     = cancelled_as m l b law n z.kind z.account z.lots z.limit (record { stands = q.1; within = omega arith }) in
     let law₂ : Law m (ledger_orders_to (put n None l.orders) l) (cancelled_then m l b law n z (order_rest n z.lots z b.orders))
-    = subst (λ w. Law m (ledger_orders_to (put n w l.orders) l) (cancelled_then m l b law n z (order_rest n z.lots z b.orders))) (all_gone z) law' in
-    ((z, q.1), subst (λ w. Law m (ledger_orders_to (put n None l.orders) l) w) (sym taken'.0)
-    (subst (λ w. Law m (ledger_orders_to (put n None l.orders) l) (cancelled_then m l b law n z w)) (all_freed b.orders n z) law₂))
+    = subst (λ w. Law m (ledger_orders_to (put n w l.orders) l) (cancelled_then m l b law n z (order_rest n z.lots z b.orders))) (all_gone z) law' in (
+      (z, q.1),
+      subst (λ w. Law m (ledger_orders_to (put n None l.orders) l) w) (sym taken'.0)
+          (subst (λ w. Law m (ledger_orders_to (put n None l.orders) l) (cancelled_then m l b law n z w)) (all_freed b.orders n z) law₂),
+    )

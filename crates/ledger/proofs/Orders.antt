@@ -17,7 +17,7 @@ use Rattle.ledger.specs.Ledger.{Ledger, under, order_entered}
 use Rattle.ledger.specs.Content.{contract_of}
 use Rattle.ledger.specs.Law.{Lots, contracts_of, position_of, position_row, combination_under, reserve, engages, engaged, closes_written, closes_bought, claimed_written, claimed_bought}
 use Rattle.ledger.specs.Tests.{Answer, first_met}
-use Rattle.ledger.specs.OrderRules.{OrderTaken, order_tests, too_many, working_sum, opens_written, opens_bought, SellOpenRule, BuyOpenRule, BuyCloseRule, SellCloseRule}
+use Rattle.ledger.specs.OrderRules.{OrderTaken, order_tests, too_many, working_sum, opens_written, opens_bought}
 use Rattle.ledger.specs.Moves.{free_written, free_bought, at, locking_written, locking_bought}
 use Rattle.ledger.specs.Runs.{Law, LegStands}
 use Rattle.ledger.proofs.Tests.{Stays, unmet, within, some_of}
@@ -144,27 +144,35 @@ module _ (m : Meaning) (b : Tables) (a code lots limit : ℕ) where
   sell_open_stays x after h l law =
       let amount : ℕ = lots * leg_margin_of m (by_code (contracts_of b) code) in
       let working : ℕ = working_sum b.orders (λ z. opens_written a code z z.kind) in
-      let pass = passed m l b law a lots limit (SellOpen code) amount (too_many (position_of b a code).written working lots).1 19 h.0 in
-      (tt, enters m l b law a lots limit (SellOpen code) amount _ b.positions (Ok x) after pass h.1 tt (λ k. refl) refl (unlocked m l b law a lots limit (SellOpen code) (λ i j. (refl, refl)))
-      (omega (arith, ltb-false 10000 ((position_of b a code).written + working + lots) pass.own, pass.lot.written, one_here a code lots 0)) (omega (arith, law.sound.bought_most a code)))
+      let pass = passed m l b law a lots limit (SellOpen code) amount (too_many (position_of b a code).written working lots).1 19 h.0 in (
+        tt,
+        enters m l b law a lots limit (SellOpen code) amount _ b.positions (Ok x) after pass h.1 tt (λ k. refl) refl (unlocked m l b law a lots limit (SellOpen code) (λ i j. (refl, refl)))
+            (omega (arith, ltb-false 10000 ((position_of b a code).written + working + lots) pass.own, pass.lot.written, one_here a code lots 0)) (omega (arith, law.sound.bought_most a code)),
+      )
 
   pub buy_open_stays : Stays m b (call.BuyOpen a code lots limit)
   buy_open_stays x after h l law =
       let working : ℕ = working_sum b.orders (λ z. opens_bought a code z z.kind) in
-      let pass = passed m l b law a lots limit (BuyOpen code) cost (too_many (position_of b a code).bought working lots).1 19 h.0 in
-      (tt, enters m l b law a lots limit (BuyOpen code) cost _ b.positions (Ok x) after pass h.1 tt (λ k. refl) refl (unlocked m l b law a lots limit (BuyOpen code) (λ i j. (refl, refl)))
-      (omega (arith, law.sound.written_most a code)) (omega (arith, ltb-false 10000 ((position_of b a code).bought + working + lots) pass.own, pass.lot.bought, one_here a code lots 0)))
+      let pass = passed m l b law a lots limit (BuyOpen code) cost (too_many (position_of b a code).bought working lots).1 19 h.0 in (
+        tt,
+        enters m l b law a lots limit (BuyOpen code) cost _ b.positions (Ok x) after pass h.1 tt (λ k. refl) refl (unlocked m l b law a lots limit (BuyOpen code) (λ i j. (refl, refl)))
+            (omega (arith, law.sound.written_most a code)) (omega (arith, ltb-false 10000 ((position_of b a code).bought + working + lots) pass.own, pass.lot.bought, one_here a code lots 0)),
+      )
 
   pub buy_close_stays : Stays m b (call.BuyClose a code lots limit)
   buy_close_stays x after h l law =
-      let pass = passed m l b law a lots limit (BuyClose code) cost (ltb (free_written (position_of b a code)) lots) 18 h.0 in
-      (tt, enters m l b law a lots limit (BuyClose code) cost _ (at a code (locking_written lots) b).positions (Ok x) after pass h.1 tt (λ k. refl) refl
-      (locked m l b law a lots limit (BuyClose code) cost _ (locking_written lots) pass refl refl (omega arith) (omega (arith, one_here a code lots 0)) (omega arith) (omega (arith, ltb-false _ _ pass.own, one_here a code lots 0)))
-      (omega (arith, law.sound.written_most a code)) (omega (arith, law.sound.bought_most a code)))
+      let pass = passed m l b law a lots limit (BuyClose code) cost (ltb (free_written (position_of b a code)) lots) 18 h.0 in (
+        tt,
+        enters m l b law a lots limit (BuyClose code) cost _ (at a code (locking_written lots) b).positions (Ok x) after pass h.1 tt (λ k. refl) refl
+            (locked m l b law a lots limit (BuyClose code) cost _ (locking_written lots) pass refl refl (omega arith) (omega (arith, one_here a code lots 0)) (omega arith) (omega (arith, ltb-false _ _ pass.own, one_here a code lots 0)))
+            (omega (arith, law.sound.written_most a code)) (omega (arith, law.sound.bought_most a code)),
+      )
 
   pub sell_close_stays : Stays m b (call.SellClose a code lots limit)
   sell_close_stays x after h l law =
-      let pass = passed m l b law a lots limit (SellClose code) 0 (ltb (free_bought (position_of b a code)) lots) 18 h.0 in
-      (tt, enters m l b law a lots limit (SellClose code) 0 _ (at a code (locking_bought lots) b).positions (Ok x) after pass h.1 tt (λ k. refl) (omega arith)
-      (locked m l b law a lots limit (SellClose code) 0 _ (locking_bought lots) pass refl refl (omega (arith, one_here a code lots 0)) (omega arith) (omega (arith, ltb-false _ _ pass.own, one_here a code lots 0)) (omega arith))
-      (omega (arith, law.sound.written_most a code)) (omega (arith, law.sound.bought_most a code)))
+      let pass = passed m l b law a lots limit (SellClose code) 0 (ltb (free_bought (position_of b a code)) lots) 18 h.0 in (
+        tt,
+        enters m l b law a lots limit (SellClose code) 0 _ (at a code (locking_bought lots) b).positions (Ok x) after pass h.1 tt (λ k. refl) (omega arith)
+            (locked m l b law a lots limit (SellClose code) 0 _ (locking_bought lots) pass refl refl (omega (arith, one_here a code lots 0)) (omega arith) (omega (arith, ltb-false _ _ pass.own, one_here a code lots 0)) (omega arith))
+            (omega (arith, law.sound.written_most a code)) (omega (arith, law.sound.bought_most a code)),
+      )

@@ -15,7 +15,7 @@ use Rattle.ledger.specs.Ledger.{Ledger, Entry, under, put, pairing_less, combina
 use Rattle.ledger.specs.Content.{Pairing}
 use Rattle.ledger.specs.Law.{Lots, contracts_of, position_of, written_claim, bought_claim, in_combinations, claimed_bought, claimed_written, engages, engaged}
 use Rattle.ledger.specs.Moves.{at, unlock_first, unlocking_written, combination_rest}
-use Rattle.ledger.specs.CombinationRules.{released, release_tests, ReleaseRule}
+use Rattle.ledger.specs.CombinationRules.{released, release_tests}
 use Rattle.ledger.specs.Runs.{Law, Fitted, SoundCombination}
 use Rattle.ledger.specs.Amounts.{pair_per_lot, legs_per_lot, pair_margin}
 use Rattle.ledger.proofs.Tests.{Stays, standing_at, unmet, within, stands_as, unmet_at}
@@ -135,7 +135,9 @@ release_stays m b n lots x after h l law =
     let free = unmet_at _ q.2 u.1.1.0 in
     let few : lots ≤ p.lots - engaged l n = ltb-false _ _ free in
     let enough = unmet_at _ q.2 u.1.1.1.0 in
-    let taken = stands_as _ q.2 h.1 in
-    (standing_at (λ (z : Pairing). lots ≤ z.lots) q.1 (omega arith), subst (λ z. Law m (combination_less n lots z l) after) (sym q.1)
-    (subst (λ z. Law m (combination_less n lots (Some p) l) z) (sym taken.0)
-    (ungrouped_keeps m l b law n lots p q.1 (within 1 1000 lots u.0).0 few (ltb-false _ _ enough))))
+    let taken = stands_as _ q.2 h.1 in (
+      standing_at (λ (z : Pairing). lots ≤ z.lots) q.1 (omega arith),
+      subst (λ z. Law m (combination_less n lots z l) after) (sym q.1)
+          (subst (λ z. Law m (combination_less n lots (Some p) l) z) (sym taken.0)
+          (ungrouped_keeps m l b law n lots p q.1 (within 1 1000 lots u.0).0 few (ltb-false _ _ enough))),
+    )

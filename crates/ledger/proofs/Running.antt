@@ -37,7 +37,7 @@ accepted_keeps m b (call.Combine account strategy first second lots) = combine_s
 accepted_keeps m b (call.Release combination lots) = release_stays m b combination lots
 
 pub calls_keep : CallsKeep
-calls_keep m b c (Ok x) after h = accepted_keeps m b c x after h
+calls_keep m b c (Ok x) after h l law = accepted_keeps m b c x after h l law
 calls_keep m b c (Err e) after h l law = (tt, subst (λ z. Law m l z) (sym (refused m b c e after h)) law)
 
 -- a run, and one call more

@@ -6,7 +6,7 @@ use Rattle.ledger.specs.declared.tables.Tables.{Tables}
 use Rattle.margin.specs.Meaning.{Meaning}
 use Rattle.ledger.specs.Runs.{ByTheRules}
 use Rattle.ledger.specs.Keeps.{KeptBy}
-use Rattle.ledger.specs.Tests.{Answer, first_met, outside, is_none, Standing, meets}
+use Rattle.ledger.specs.Tests.{first_met, outside, is_none, Standing, meets}
 
 none_met : (n : ℕ) (t : Bool) (xs : List (ℕ × Bool)) → first_met ((n, t) ∷ xs) ≡ None → (t ≡ false) × (first_met xs ≡ None)
 none_met n t xs p = grind arith

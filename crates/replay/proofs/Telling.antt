@@ -10,7 +10,7 @@ use Rattle.ledger.specs.declared.tables.Tables.{Tables}
 use Rattle.ledger.specs.Keeps.{Opened, KeptBy}
 use Rattle.ledger.specs.Law.{contracts_of, margin_held, reserves}
 use Rattle.ledger.specs.Ledger.{Ledger}
-use Rattle.ledger.proofs.Tests.{some_same}
+use Rattle.std.proofs.lemmas.Option.{same_Some}
 use Rattle.ledger.specs.Runs.{ByTheRules, Run, Law, LawAlong, Kept, fed}
 use Rattle.ledger.specs.Runs.Run.{start}
 use Rattle.ledger.proofs.Running.{run_on, run_law, contracts_stay}
@@ -117,7 +117,7 @@ opened_by m s t x y b p q h = subst (λ z. OpenedBy m t z b) q (subst (λ z. Ope
 
 -- the call that a file hands out is the one at its place in the bytes
 own_call : (bytes : List ℕ) (d : DayFile) (k : ℕ) (c : Call) → Says bytes d → k < d.call_count → OwnCall d bytes k (Some c) → c ≡ call_at bytes k
-own_call bytes d k c says below own = some_same (own says (subst (λ n. k < n) says.calls_counted below)).0
+own_call bytes d k c says below own = same_Some _ _ (own says (subst (λ n. k < n) says.calls_counted below)).0
 
 -- the line of the call that a file hands out at k, put behind the others
 pub next_told : (m : Meaning) (d : DayFile) (bytes : List ℕ) (l : Ledger) (first : Tables) (k : ℕ) (c : Call) (lines items : List CallLine) (line : CallLine) (now after : Tables) → Says bytes d → k < d.call_count → OwnCall d bytes k (Some c) →
