@@ -1,5 +1,5 @@
 -- A record's fields, one by one.
-use Rattle.std.proofs.Common.{◌≡◌, ℕ, ◌+◌, ◌<◌, ◌≤◌, true, ◌||◌, eqb, ltb, List, [], ◌∷◌, length, get_or, drop, Some, None, Option, sym, refl, ap, ◌∙◌, subst, ⊎_elim, arith}
+use Rattle.std.proofs.Common.{◌≡◌, ℕ, ◌+◌, ◌<◌, ◌≤◌, true, ◌||◌, eqb, ltb, List, [], ◌∷◌, length, get_or, drop, Some, None, Option, sym, refl, ap, ◌∙◌, ⊎_elim, arith}
 use Rattle.std.proofs.lemmas.List.{drop_more}
 use Rattle.std.proofs.lemmas.Bool.{and_parts, leb-true, or_parts, ltb-false, eqb-true, cond-true, cond-false, cases_Bool}
 use Rattle.dayfile.specs.declared.field.Field.{Field}
@@ -8,7 +8,7 @@ use Rattle.dayfile.specs.declared.field.Rule.TheVariants.{Within, Zero, Any}
 use Rattle.dayfile.specs.declared.fault.Fault.{Fault}
 use Rattle.dayfile.specs.Bytes.{value}
 use Rattle.dayfile.specs.Faults.{fault, first}
-use Rattle.dayfile.specs.Fields.{breach, placed, fields_fault, all_inside}
+use Rattle.dayfile.specs.Fields.{breach, placed, fields_fault, all_inside, Keeps, Kept}
 
 abbrev pub nothing : Field
 nothing = record { column = record { at = 0; width = 0 }; rule = Within 0 0 }
@@ -42,16 +42,6 @@ module _ (bytes : List ℕ) (s k p : ℕ) (fs : List Field) (i : ℕ) (h : i < l
       ∙ ap (λ m. first (placed (breach f.rule m) s k (p + f.column.at)) (faults (drop (i + 1) fs))) (sym is)
       ∙ ap (λ o. first (placed o s k (p + f.column.at)) (faults (drop (i + 1) fs))) (sym e)
 
--- What a record without a fault keeps.
-abbrev pub Keeps : Rule → ℕ → Type 0
-Keeps (Within low high) n = (low ≤ n) × (n ≤ high)
-Keeps Zero n = n ≡ 0
-Keeps Any n = Unit {0}
-
-abbrev pub Kept : List ℕ → List Field → Type 0
-Kept bytes [] = Unit {0}
-Kept bytes (f ∷ fs) = Keeps f.rule (value bytes f.column) × Kept bytes fs
-
 pub some_none : {X : Type 0} (x : X) → Some x ≡ None → ⊥
 some_none x e = let z : ◌≡◌ {A = ℕ} 0 1 = cc in omega arith
 
@@ -77,6 +67,3 @@ fields_kept bytes s k p [] e = tt
 fields_kept bytes s k p (f ∷ fs) e =
     let q = first_none _ _ e in
     (keeps f.rule _ (placed_none _ s k _ q.0), fields_kept bytes s k p fs q.1)
-
-pub kept_by : (bytes : List ℕ) (s k p : ℕ) (fs gs : List Field) → fs ≡ gs → fields_fault bytes s k p fs ≡ None → Kept bytes gs
-kept_by bytes s k p fs gs e h = fields_kept bytes s k p gs (subst (λ x. fields_fault bytes s k p x ≡ None) e h)

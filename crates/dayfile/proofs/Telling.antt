@@ -1,13 +1,13 @@
 -- A sound call's record says its call, and nothing else.
 use Rattle.std.proofs.Common.{◌≡◌, ℕ, zero, suc, ◌+◌, ◌<◌, ◌≤◌, List, [], ◌∷◌, None, arith}
 use Rattle.dayfile.specs.Bytes.{value}
-use Rattle.dayfile.specs.Fields.{values}
+use Rattle.dayfile.specs.Fields.{Keeps, values}
 use Rattle.dayfile.specs.Layout.{names_of, use_rule, argument_fields, call_number_fields, call_fields, call_column}
 use Rattle.dayfile.specs.declared.field.Rule.TheVariants.{Zero}
 use Rattle.dayfile.specs.Records.{call_by, call_in, call_numbers}
 use Rattle.dayfile.specs.Format.{first_below, call_fault, call_record_fault, count_of_calls, call_part, call_at}
 use Rattle.dayfile.proofs.Firsts.{each_none}
-use Rattle.dayfile.proofs.Checking.{Keeps, fields_kept, first_none}
+use Rattle.dayfile.proofs.Checking.{fields_kept, first_none}
 
 abbrev Used : ℕ → ℕ → ℕ → ℕ → ℕ → ℕ → ℕ → ℕ → Type 0
 Used n account strategy spare a b lots amount =

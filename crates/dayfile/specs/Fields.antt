@@ -1,5 +1,5 @@
 -- The rules of a record's fields. Assumes nothing.
-use Rattle.std.specs.Prelude.{ℕ, ◌+◌, Bool, true, cond, ◌&&◌, ◌||◌, List, [], ◌∷◌, Some, None, Option, ◌==◌, nat_le, nat_lt}
+use Rattle.std.specs.Prelude.{◌≡◌, ℕ, ◌+◌, ◌≤◌, Bool, true, cond, ◌&&◌, ◌||◌, List, [], ◌∷◌, Some, None, Option, ◌==◌, nat_le, nat_lt}
 use Rattle.dayfile.specs.declared.field.Rule.{Rule}
 use Rattle.dayfile.specs.declared.field.Rule.TheVariants.{Within, Zero, Any}
 use Rattle.dayfile.specs.declared.field.Field.{Field}
@@ -25,6 +25,16 @@ field_fault bytes section ordinal place f = placed (breach f.rule (value bytes f
 abbrev pub fields_fault : List ℕ → ℕ → ℕ → ℕ → List Field → Option Fault
 fields_fault bytes section ordinal place [] = None
 fields_fault bytes section ordinal place (f ∷ fs) = first (field_fault bytes section ordinal place f) (fields_fault bytes section ordinal place fs)
+
+-- each value keeps its field's rule
+abbrev pub Keeps : Rule → ℕ → Type 0
+Keeps (Within low high) n = (low ≤ n) × (n ≤ high)
+Keeps Zero n = n ≡ 0
+Keeps Any n = Unit {0}
+
+abbrev pub Kept : List ℕ → List Field → Type 0
+Kept bytes [] = Unit {0}
+Kept bytes (f ∷ fs) = Keeps f.rule (value bytes f.column) × Kept bytes fs
 
 -- what a record's fields hold
 abbrev pub values : List ℕ → List Field → List ℕ

@@ -4,15 +4,10 @@ use Rattle.margin.specs.Terms.{Terms}
 use Rattle.ledger.specs.declared.call.Call.{Call}
 use Rattle.ledger.specs.declared.call.Call.TheVariants.{Deposit, Withdraw, SellOpen, BuyOpen, BuyClose, SellClose, LegClose, Fill, Cancel, Combine, Release}
 use Rattle.ledger.specs.Calls.{call_number}
-use Rattle.ledger.specs.declared.settings.BaseScale.{BaseScale}
-use Rattle.ledger.specs.declared.settings.BaseScale.TheVariants.{Standard, Listed}
+use Rattle.ledger.specs.Scales.{scale_number}
 use Rattle.ledger.specs.declared.settings.Settings.{Settings}
 use Rattle.dayfile.specs.Bytes.{value}
 use Rattle.dayfile.specs.Layout.{code_column, underlying_column, expiry_column, right_column, kind_column, unit_column, strike_column, settlement_column, underlying_close_column, listed_margin_column, call_column, account_column, strategy_column, a_column, b_column, lots_column, amount_column}
-
-abbrev pub scale_number : BaseScale → ℕ
-scale_number Standard = 1
-scale_number Listed = 2
 
 -- the settings as the fields of their record, by place; the last is spare
 abbrev pub settings_numbers : Settings → List ℕ

@@ -1,10 +1,10 @@
 // The contracts of a day, each judged as it is listed.
 ghost use Rattle.std.specs.Prelude.{◌≡◌, ℕ, ◌+◌, ◌*◌, ◌^◌, ◌<◌, ◌≤◌, [], ◌∷◌, ◌++◌, length, IfOk, OnOk};
-ghost use Rattle.margin.specs.Terms.{terms_of, right_number, kind_number};
+ghost use Rattle.margin.specs.Terms.{terms_of};
 ghost use Rattle.margin.specs.Listing.{listed, listed_terms};
 ghost use Rattle.dayfile.specs.declared.fault.Section.TheVariants.{Contracts as IsContracts};
 ghost use Rattle.dayfile.specs.Faults.{Passed, SectionPassed, section_number, first as first_fault};
-ghost use Rattle.dayfile.specs.Fields.{fields_fault};
+ghost use Rattle.dayfile.specs.Fields.{fields_fault, Kept};
 ghost use Rattle.dayfile.specs.Layout.{contract_fields};
 ghost use Rattle.dayfile.specs.Records.{terms_in};
 ghost use Rattle.dayfile.specs.Format.{start as start_of_lem, day_of, listing_fault, contract_fault, first_below, terms};
@@ -56,23 +56,30 @@ fn fields(day: u16) -> [Field; 10]
     ]
 }
 
-fn right(number: u64) -> Right
-    requires { (1 ≤ number) × (number ≤ 2) }
-    ensures { right_number result ≡ number }
+// The contract of a record whose fields keep their rules.
+fn contract_in(bytes: &[u8], day: u16) -> Contract
+    requires whole { length bytes.now ≡ 32 }
+    requires day { 1 ≤ day }
+    requires kept { Kept bytes.now (contract_fields day) }
+    ensures { terms_of result ≡ terms_in bytes.now }
 {
-    match number {
-        1 => Right::Call,
-        _ => Right::Put,
-    }
-}
-
-fn kind(number: u64) -> Kind
-    requires { (1 ≤ number) × (number ≤ 2) }
-    ensures { kind_number result ≡ number }
-{
-    match number {
-        1 => Kind::Stock,
-        _ => Kind::Fund,
+    let Ok(right) = Right::try_from(read(bytes, RIGHT) as u8) else {
+        unreachable()
+    };
+    let Ok(kind) = Kind::try_from(read(bytes, KIND) as u8) else {
+        unreachable()
+    };
+    Contract {
+        code: read(bytes, CODE) as u32,
+        underlying: read(bytes, UNDERLYING) as u32,
+        expiry: read(bytes, EXPIRY) as u16,
+        right,
+        kind,
+        unit: read(bytes, UNIT) as u32,
+        strike: read(bytes, STRIKE) as u32,
+        settlement: read(bytes, SETTLEMENT) as u32,
+        underlying_close: read(bytes, UNDERLYING_CLOSE) as u32,
+        listed_margin: read(bytes, LISTED_MARGIN) as u32,
     }
 }
 
@@ -84,19 +91,7 @@ fn contract(source: &Record, day: u16) -> Result<Contract, RecordFault>
     ensures said { IfOk result (λ c. terms_of c ≡ terms_in source.now.bytes.now) }
 {
     source.check(&fields(day))?;
-    let bytes = source.bytes;
-    Ok(Contract {
-        code: read(bytes, CODE) as u32,
-        underlying: read(bytes, UNDERLYING) as u32,
-        expiry: read(bytes, EXPIRY) as u16,
-        right: right(read(bytes, RIGHT)),
-        kind: kind(read(bytes, KIND)),
-        unit: read(bytes, UNIT) as u32,
-        strike: read(bytes, STRIKE) as u32,
-        settlement: read(bytes, SETTLEMENT) as u32,
-        underlying_close: read(bytes, UNDERLYING_CLOSE) as u32,
-        listed_margin: read(bytes, LISTED_MARGIN) as u32,
-    })
+    Ok(contract_in(source.bytes, day))
 }
 
 // Lists the contract of a record behind the others.

@@ -1,9 +1,9 @@
 // A reader that keeps a place in the caller's bytes and hands out each record as a part of them.
-ghost use Rattle.std.specs.Prelude.{◌≡◌, ℕ, ◌+◌, ◌^◌, ◌<◌, ◌≤◌, true, length};
+ghost use Rattle.std.specs.Prelude.{◌≡◌, ℕ, ◌+◌, ◌^◌, ◌<◌, ◌≤◌, true, length, OnOk};
 ghost use Rattle.std.specs.Option.{option_map};
 ghost use Rattle.dayfile.specs.Bytes.{little_endian, value};
 ghost use Rattle.dayfile.specs.Faults.{fault as fault_of, record_told, Passed, breach_number, section_number};
-ghost use Rattle.dayfile.specs.Fields.{breach as breach_of, fields_fault, all_inside};
+ghost use Rattle.dayfile.specs.Fields.{breach as breach_of, fields_fault, all_inside, Kept};
 ghost use Rattle.dayfile.specs.Reading.{Next};
 
 use crate::fault::{Breach, RecordFault, Section};
@@ -108,7 +108,8 @@ impl Record<'_> {
     pub(crate) fn check(&self, fields: &[Field]) -> Result<(), RecordFault>
         requires inside { all_inside (length self.now.bytes.now) fields.now ≡ true }
         requires here { self.now.place + length self.now.bytes.now < 2 ^ 64 }
-        ensures { Passed (fields_fault self.now.bytes.now (section_number self.now.section) self.now.ordinal self.now.place fields.now) result }
+        ensures fault { Passed (fields_fault self.now.bytes.now (section_number self.now.section) self.now.ordinal self.now.place fields.now) result }
+        ensures kept { OnOk result (Kept self.now.bytes.now fields.now) }
     {
         for field in fields {
             if let Some(breach) = breach(field.rule, read(self.bytes, field.column)) {

@@ -1,4 +1,5 @@
 -- The calls of a book, the ledger beside it, the rules of the calls, and the law between ledger and book.
+pub mod Scales
 pub mod Calls
 pub mod Refusals
 pub mod ByCode

@@ -1,6 +1,24 @@
 // The eleven calls, with what each names. Numbers are as the caller gave them: the book judges them.
 ghost use Rattle.std.specs.Prelude.{◌≡◌};
-ghost use Rattle.ledger.specs.Calls.{call_number, call_name};
+ghost use Rattle.ledger.specs.Calls.{call_number, call_name, kind_of, kind_name, CallKindOf};
+
+use margin::number::UnknownNumber;
+
+// The kinds of calls, by their numbers in a day file.
+#[derive(Clone, Copy, Debug, PartialEq, Eq)]
+pub enum CallKind {
+    Deposit = 1,
+    Withdraw = 2,
+    SellOpen = 3,
+    BuyOpen = 4,
+    BuyClose = 5,
+    SellClose = 6,
+    LegClose = 7,
+    Fill = 8,
+    Cancel = 9,
+    Combine = 10,
+    Release = 11,
+}
 
 #[derive(Clone, Copy)]
 pub enum Call {
@@ -61,42 +79,80 @@ pub enum Call {
     },
 }
 
+impl TryFrom<u8> for CallKind {
+    type Error = UnknownNumber;
+
+    ghost try_from_gives = { CallKindOf };
+
+    fn try_from(number: u8) -> Result<CallKind, UnknownNumber> {
+        match number {
+            1 => Ok(CallKind::Deposit),
+            2 => Ok(CallKind::Withdraw),
+            3 => Ok(CallKind::SellOpen),
+            4 => Ok(CallKind::BuyOpen),
+            5 => Ok(CallKind::BuyClose),
+            6 => Ok(CallKind::SellClose),
+            7 => Ok(CallKind::LegClose),
+            8 => Ok(CallKind::Fill),
+            9 => Ok(CallKind::Cancel),
+            10 => Ok(CallKind::Combine),
+            11 => Ok(CallKind::Release),
+            _ => Err(UnknownNumber(number)),
+        }
+    }
+}
+
+impl CallKind {
+    // The kind's name, as a report has it.
+    pub fn name(self) -> &'static str
+        ensures { result.now ≡ kind_name self }
+    {
+        match self {
+            CallKind::Deposit => "deposit",
+            CallKind::Withdraw => "withdraw",
+            CallKind::SellOpen => "sell-open",
+            CallKind::BuyOpen => "buy-open",
+            CallKind::BuyClose => "buy-close",
+            CallKind::SellClose => "sell-close",
+            CallKind::LegClose => "leg-close",
+            CallKind::Fill => "fill",
+            CallKind::Cancel => "cancel",
+            CallKind::Combine => "combine",
+            CallKind::Release => "release",
+        }
+    }
+}
+
 impl Call {
+    pub fn kind(&self) -> CallKind
+        ensures { result ≡ kind_of self.now }
+    {
+        match self {
+            Call::Deposit { .. } => CallKind::Deposit,
+            Call::Withdraw { .. } => CallKind::Withdraw,
+            Call::SellOpen { .. } => CallKind::SellOpen,
+            Call::BuyOpen { .. } => CallKind::BuyOpen,
+            Call::BuyClose { .. } => CallKind::BuyClose,
+            Call::SellClose { .. } => CallKind::SellClose,
+            Call::LegClose { .. } => CallKind::LegClose,
+            Call::Fill { .. } => CallKind::Fill,
+            Call::Cancel { .. } => CallKind::Cancel,
+            Call::Combine { .. } => CallKind::Combine,
+            Call::Release { .. } => CallKind::Release,
+        }
+    }
+
     // The call's number, as a day file has it.
     pub fn number(&self) -> u8
         ensures { result ≡ call_number self.now }
     {
-        match self {
-            Call::Deposit { .. } => 1,
-            Call::Withdraw { .. } => 2,
-            Call::SellOpen { .. } => 3,
-            Call::BuyOpen { .. } => 4,
-            Call::BuyClose { .. } => 5,
-            Call::SellClose { .. } => 6,
-            Call::LegClose { .. } => 7,
-            Call::Fill { .. } => 8,
-            Call::Cancel { .. } => 9,
-            Call::Combine { .. } => 10,
-            Call::Release { .. } => 11,
-        }
+        self.kind() as u8
     }
 
     // The call's name, as a report has it.
     pub fn name(&self) -> &'static str
         ensures { result.now ≡ call_name self.now }
     {
-        match self {
-            Call::Deposit { .. } => "deposit",
-            Call::Withdraw { .. } => "withdraw",
-            Call::SellOpen { .. } => "sell-open",
-            Call::BuyOpen { .. } => "buy-open",
-            Call::BuyClose { .. } => "buy-close",
-            Call::SellClose { .. } => "sell-close",
-            Call::LegClose { .. } => "leg-close",
-            Call::Fill { .. } => "fill",
-            Call::Cancel { .. } => "cancel",
-            Call::Combine { .. } => "combine",
-            Call::Release { .. } => "release",
-        }
+        self.kind().name()
     }
 }

@@ -1,11 +1,28 @@
 // The day's settings. They exist only with every field in its range.
 ghost use Rattle.std.specs.Prelude.{◌≤◌};
+ghost use Rattle.ledger.specs.Scales.{ScaleOf};
+
+use margin::number::UnknownNumber;
 
 // The scale that the raises stand on.
 #[derive(Clone, Copy, PartialEq, Eq)]
 pub enum BaseScale {
-    Standard,
-    Listed,
+    Standard = 1,
+    Listed = 2,
+}
+
+impl TryFrom<u8> for BaseScale {
+    type Error = UnknownNumber;
+
+    ghost try_from_gives = { ScaleOf };
+
+    fn try_from(number: u8) -> Result<BaseScale, UnknownNumber> {
+        match number {
+            1 => Ok(BaseScale::Standard),
+            2 => Ok(BaseScale::Listed),
+            _ => Err(UnknownNumber(number)),
+        }
+    }
 }
 
 // Raises are percentages; the first stands on the base scale, the second on the first. Bit 0 of `permitted` lets leg closes of

@@ -1,5 +1,6 @@
 -- Contracts by their numbers, the listing of a day, the strategies, and the margins of legs and pairs.
 pub mod Terms
+pub mod Numbers
 pub mod Listed
 pub mod Listing
 pub mod ByCode

@@ -3,14 +3,14 @@ ghost use Rattle.std.specs.Prelude.{◌≤◌};
 
 #[derive(Clone, Copy, PartialEq, Eq)]
 pub enum Right {
-    Call,
-    Put,
+    Call = 1,
+    Put = 2,
 }
 
 #[derive(Clone, Copy, PartialEq, Eq)]
 pub enum Kind {
-    Stock,
-    Fund,
+    Stock = 1,
+    Fund = 2,
 }
 
 // Prices are whole hao (0.0001 yuan), the listed margin is whole fen (100 hao), expiry is a trading-day number.

@@ -4,6 +4,7 @@
 pub mod contract;
 pub mod figures;
 pub mod listing;
+pub mod number;
 pub mod pair;
 pub mod percent;
 pub mod scale;

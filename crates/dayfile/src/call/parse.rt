@@ -1,5 +1,6 @@
 // The record of a call.
 ghost use Rattle.std.specs.Prelude.{◌≡◌, ℕ, ◌+◌, ◌*◌, ◌^◌, ◌<◌, ◌≤◌, length};
+ghost use Rattle.ledger.specs.Calls.{kind_number};
 ghost use Rattle.dayfile.specs.declared.fault.Section.TheVariants.{Calls as IsCalls};
 ghost use Rattle.dayfile.specs.Faults.{Passed, SectionPassed};
 ghost use Rattle.dayfile.specs.Layout.{use_rule, argument_fields, names_of};
@@ -11,7 +12,7 @@ use crate::fault::{RecordFault, Section, SectionFault};
 use crate::field::{Column, Field, Rule};
 use crate::record::{Reader, Record, read};
 use crate::sections::CALL;
-use ledger::call::Call;
+use ledger::call::{Call, CallKind};
 
 const NUMBER: Column = Column { at: 0, width: 1 };
 
@@ -38,49 +39,43 @@ const NONE: Named = Named {
     amount: false,
 };
 
-fn names(number: u64) -> Named
-    requires { (1 ≤ number) × (number ≤ 11) }
-    ensures { result ≡ names_of number }
+// Lots of the contract, order or combination that A is, and those at a limit or a price.
+const LOTS_OF_A: Named = Named {
+    a: true,
+    lots: true,
+    ..NONE
+};
+
+const AT_A_PRICE: Named = Named {
+    amount: true,
+    ..LOTS_OF_A
+};
+
+fn names(kind: CallKind) -> Named
+    ensures { result ≡ names_of (kind_number kind) }
 {
-    match number {
-        1 | 2 => Named {
+    match kind {
+        CallKind::Deposit | CallKind::Withdraw => Named {
             amount: true,
             ..NONE
         },
-        3 | 4 | 5 | 6 => Named {
+        CallKind::SellOpen | CallKind::BuyOpen | CallKind::BuyClose | CallKind::SellClose => Named {
             account: true,
-            a: true,
-            lots: true,
-            amount: true,
-            ..NONE
+            ..AT_A_PRICE
         },
-        7 => Named {
-            a: true,
+        CallKind::LegClose => Named {
             b: true,
-            lots: true,
-            amount: true,
-            ..NONE
+            ..AT_A_PRICE
         },
-        8 => Named {
-            a: true,
-            lots: true,
-            amount: true,
-            ..NONE
-        },
-        9 => Named { a: true, ..NONE },
-        10 => Named {
+        CallKind::Fill => AT_A_PRICE,
+        CallKind::Cancel => Named { a: true, ..NONE },
+        CallKind::Combine => Named {
             account: true,
             strategy: true,
-            a: true,
             b: true,
-            lots: true,
-            ..NONE
+            ..LOTS_OF_A
         },
-        _ => Named {
-            a: true,
-            lots: true,
-            ..NONE
-        },
+        CallKind::Release => LOTS_OF_A,
     }
 }
 
@@ -112,8 +107,10 @@ fn check(source: &Record) -> Result<(), RecordFault>
     ensures { Passed (call_record_fault source.now.bytes.now source.now.ordinal source.now.place) result }
 {
     source.check(&[Field::within(NUMBER, 1, 11)])?;
-    let number = read(source.bytes, NUMBER);
-    source.check(&arguments(names(number)))
+    let Ok(kind) = CallKind::try_from(read(source.bytes, NUMBER) as u8) else {
+        unreachable()
+    };
+    source.check(&arguments(names(kind)))
 }
 
 // Whether each call's record is sound.
@@ -147,53 +144,53 @@ pub(crate) fn call(bytes: &[u8]) -> Call
     let b = read(bytes, B) as u32;
     let lots = read(bytes, LOTS) as u32;
     let amount = read(bytes, AMOUNT);
-    match read(bytes, NUMBER) {
-        1 => Call::Deposit { amount },
-        2 => Call::Withdraw { amount },
-        3 => Call::SellOpen {
+    match CallKind::try_from(read(bytes, NUMBER) as u8) {
+        Ok(CallKind::Deposit) => Call::Deposit { amount },
+        Ok(CallKind::Withdraw) => Call::Withdraw { amount },
+        Ok(CallKind::SellOpen) => Call::SellOpen {
             account,
             contract: a,
             lots,
             limit: amount,
         },
-        4 => Call::BuyOpen {
+        Ok(CallKind::BuyOpen) => Call::BuyOpen {
             account,
             contract: a,
             lots,
             limit: amount,
         },
-        5 => Call::BuyClose {
+        Ok(CallKind::BuyClose) => Call::BuyClose {
             account,
             contract: a,
             lots,
             limit: amount,
         },
-        6 => Call::SellClose {
+        Ok(CallKind::SellClose) => Call::SellClose {
             account,
             contract: a,
             lots,
             limit: amount,
         },
-        7 => Call::LegClose {
+        Ok(CallKind::LegClose) => Call::LegClose {
             combination: a,
             leg: b,
             lots,
             limit: amount,
         },
-        8 => Call::Fill {
+        Ok(CallKind::Fill) => Call::Fill {
             order: a,
             lots,
             price: amount,
         },
-        9 => Call::Cancel { order: a },
-        10 => Call::Combine {
+        Ok(CallKind::Cancel) => Call::Cancel { order: a },
+        Ok(CallKind::Combine) => Call::Combine {
             account,
             strategy,
             first: a,
             second: b,
             lots,
         },
-        _ => Call::Release {
+        Ok(CallKind::Release) | Err(_) => Call::Release {
             combination: a,
             lots,
         },

@@ -1,7 +1,7 @@
 // The settings record.
 ghost use Rattle.std.specs.Prelude.{◌≡◌, ℕ, ◌+◌, ◌^◌, ◌<◌, ◌≤◌, length, IfOk};
 ghost use Rattle.dayfile.specs.Faults.{Passed, SectionPassed, section_number};
-ghost use Rattle.dayfile.specs.Fields.{fields_fault, values};
+ghost use Rattle.dayfile.specs.Fields.{fields_fault, Kept, values};
 ghost use Rattle.dayfile.specs.Layout.{settings_fields};
 ghost use Rattle.dayfile.specs.Records.{settings_numbers};
 ghost use Rattle.dayfile.specs.Format.{start as start_of_lem, settings_part, settings_fault};
@@ -44,20 +44,16 @@ fn fields() -> [Field; 8]
     ]
 }
 
-fn settings(source: &Record) -> Result<Settings, RecordFault>
-    requires whole { length source.now.bytes.now ≡ 20 }
-    requires here { source.now.place + 20 < 2 ^ 64 }
-    ensures fault { Passed (fields_fault source.now.bytes.now (section_number source.now.section) source.now.ordinal source.now.place settings_fields) result }
-    ensures said { IfOk result (λ s. settings_numbers s ≡ values source.now.bytes.now settings_fields) }
+// The settings of a record whose fields keep their rules.
+fn settings_in(bytes: &[u8]) -> Settings
+    requires whole { length bytes.now ≡ 20 }
+    requires kept { Kept bytes.now settings_fields }
+    ensures { settings_numbers result ≡ values bytes.now settings_fields }
 {
-    source.check(&fields())?;
-    let bytes = source.bytes;
-    let scale = if read(bytes, SCALE) == 1 {
-        BaseScale::Standard
-    } else {
-        BaseScale::Listed
+    let Ok(scale) = BaseScale::try_from(read(bytes, SCALE) as u8) else {
+        unreachable()
     };
-    Ok(Settings {
+    Settings {
         scale,
         first_raise: read(bytes, FIRST_RAISE) as u8,
         second_raise: read(bytes, SECOND_RAISE) as u8,
@@ -65,7 +61,17 @@ fn settings(source: &Record) -> Result<Settings, RecordFault>
         first_number: read(bytes, FIRST_NUMBER) as u32,
         opening: read(bytes, OPENING),
         day: read(bytes, DAY) as u16,
-    })
+    }
+}
+
+fn settings(source: &Record) -> Result<Settings, RecordFault>
+    requires whole { length source.now.bytes.now ≡ 20 }
+    requires here { source.now.place + 20 < 2 ^ 64 }
+    ensures fault { Passed (fields_fault source.now.bytes.now (section_number source.now.section) source.now.ordinal source.now.place settings_fields) result }
+    ensures said { IfOk result (λ s. settings_numbers s ≡ values source.now.bytes.now settings_fields) }
+{
+    source.check(&fields())?;
+    Ok(settings_in(source.bytes))
 }
 
 // The settings of a file whose settings section starts at `start`.
