@@ -10,6 +10,7 @@ use ledger::refusal::Refusal;
 use ledger::settings::{BaseScale, Settings};
 use margin::contract::{Contract, Kind, Right};
 use margin::listing::Listing;
+use margin::percent::Percent;
 use margin::scale::standard::StandardScale;
 use margin::scale::{CombinationScale, LegScale};
 use std::process::Abort;
@@ -80,8 +81,8 @@ fn play<S: CombinationScale>(
     }
     let settings = Settings {
         scale: BaseScale::Standard,
-        first_raise: 0,
-        second_raise: 0,
+        first_raise: Percent { value: 0 },
+        second_raise: Percent { value: 0 },
         permitted: 63,
         first_number,
         opening,

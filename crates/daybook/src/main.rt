@@ -1,16 +1,15 @@
 // Plays a day file, read from standard input, and prints a line for each call.
 #![tactic(auto)]
 
-ghost use Rattle.std.specs.Prelude.{◌≡◌, ◌≤◌};
 ghost use Rattle.margin.specs.Meaning.{meaning};
 ghost use Rattle.ledger.specs.Runs.{Kept};
 ghost use Rattle.book.specs.Book.{tables_of};
 
 use book::Book;
+use dayfile::fault::Fault;
 use dayfile::file::DayFile;
 use ledger::call::Call;
 use ledger::settings::BaseScale;
-use margin::percent::Percent;
 use margin::scale::listed::ListedScale;
 use margin::scale::raised::RaisedScale;
 use margin::scale::standard::StandardScale;
@@ -33,19 +32,8 @@ fn play(rt: &HostRuntime) -> io::Result<()> {
             BaseScale::Standard => play_raised(rt, &file, bytes.as_slice(), StandardScale),
             BaseScale::Listed => play_raised(rt, &file, bytes.as_slice(), ListedScale),
         },
-        Err(fault) => rt.println(fault.told()),
+        Err(fault) => rt.println(Fault::from(fault)),
     }
-}
-
-// A raise of so many percent.
-fn raise(value: u8) -> Percent
-    requires { value ≤ 100 }
-    ensures { result.value ≡ value }
-{
-    let Some(percent) = Percent::new(value) else {
-        unreachable()
-    };
-    percent
 }
 
 // Plays the file over a scale, raised twice as the settings say.
@@ -58,11 +46,11 @@ fn play_raised<S: CombinationScale + Drop>(
     let settings = file.settings();
     let first = RaisedScale {
         base,
-        percent: raise(settings.first_raise),
+        percent: settings.first_raise,
     };
     let second = RaisedScale {
         base: first,
-        percent: raise(settings.second_raise),
+        percent: settings.second_raise,
     };
     report(rt, file, bytes, &second)
 }

@@ -11,7 +11,7 @@ use Rattle.dayfile.specs.Layout.{code_column, underlying_column, expiry_column, 
 
 -- the settings as the fields of their record, by place; the last is spare
 abbrev pub settings_numbers : Settings → List ℕ
-settings_numbers s = scale_number s.scale ∷ s.first_raise ∷ s.second_raise ∷ s.permitted ∷ s.first_number ∷ s.opening ∷ s.day ∷ 0 ∷ []
+settings_numbers s = scale_number s.scale ∷ s.first_raise.value ∷ s.second_raise.value ∷ s.permitted ∷ s.first_number ∷ s.opening ∷ s.day ∷ 0 ∷ []
 
 -- the terms in a contract's record
 abbrev pub terms_in : List ℕ → Terms

@@ -1,23 +1,23 @@
 // What is wrong with a day file: a record's fault within a section's, and that within the file's.
 ghost use Rattle.std.specs.Prelude.{◌≡◌};
-ghost use Rattle.dayfile.specs.Faults.{section_number, breach_number, record_told, section_told, file_told};
+ghost use Rattle.dayfile.specs.Faults.{section_number, pair_place, length_place, breach_number, record_told, section_told, file_told};
 ghost use Rattle.dayfile.specs.declared.fault.SectionFault.TheVariants.{Record as InRecord};
 ghost use Rattle.dayfile.specs.declared.fault.FileFault.TheVariants.{Section as InSection};
 
 #[derive(Clone, Copy, PartialEq, Eq)]
 pub enum Section {
-    Settings,
-    Contracts,
-    Calls,
+    Settings = 1,
+    Contracts = 2,
+    Calls = 3,
 }
 
 // The rule that a record breaks.
 #[derive(Clone, Copy, PartialEq, Eq)]
 pub enum Breach {
-    OutOfRange,
-    CodeOrder,
-    UnderlyingClash,
-    NotZero,
+    OutOfRange = 4,
+    CodeOrder = 5,
+    UnderlyingClash = 6,
+    NotZero = 7,
 }
 
 // A record is known by its section and its ordinal there, from 1; the place is the field's, in the file.
@@ -68,15 +68,80 @@ impl From<SectionFault> for FileFault {
     }
 }
 
+impl From<RecordFault> for Fault {
+    ghost from_gives = { λ e r. r ≡ record_told e };
+
+    fn from(fault: RecordFault) -> Fault {
+        Fault {
+            number: fault.breach.number(),
+            section: fault.section.number(),
+            ordinal: fault.ordinal,
+            place: fault.place,
+        }
+    }
+}
+
+impl From<SectionFault> for Fault {
+    ghost from_gives = { λ e r. r ≡ section_told e };
+
+    fn from(fault: SectionFault) -> Fault {
+        match fault {
+            SectionFault::Pair(section) => Fault {
+                number: 2,
+                section: section.number(),
+                ordinal: 0,
+                place: section.pair_place(),
+            },
+            SectionFault::Length(section) => Fault {
+                number: 3,
+                section: section.number(),
+                ordinal: 0,
+                place: section.length_place(),
+            },
+            SectionFault::Record(inner) => Fault::from(inner),
+        }
+    }
+}
+
+impl From<FileFault> for Fault {
+    ghost from_gives = { λ e r. r ≡ file_told e };
+
+    fn from(fault: FileFault) -> Fault {
+        match fault {
+            FileFault::Size => Fault {
+                number: 1,
+                section: 0,
+                ordinal: 0,
+                place: 0,
+            },
+            FileFault::Section(inner) => Fault::from(inner),
+        }
+    }
+}
+
 impl Section {
     pub fn number(self) -> u8
         ensures { result ≡ section_number self }
     {
+        self as u8
+    }
+
+    // Where the section's pair of offset and length stands.
+    pub(crate) fn pair_place(self) -> usize
+        ensures { result ≡ pair_place self }
+    {
         match self {
-            Section::Settings => 1,
-            Section::Contracts => 2,
-            Section::Calls => 3,
+            Section::Settings => 0,
+            Section::Contracts => 8,
+            Section::Calls => 16,
         }
+    }
+
+    // Where the length stands in that pair.
+    pub(crate) fn length_place(self) -> usize
+        ensures { result ≡ length_place self }
+    {
+        self.pair_place() + 4
     }
 }
 
@@ -84,70 +149,6 @@ impl Breach {
     pub fn number(self) -> u8
         ensures { result ≡ breach_number self }
     {
-        match self {
-            Breach::OutOfRange => 4,
-            Breach::CodeOrder => 5,
-            Breach::UnderlyingClash => 6,
-            Breach::NotZero => 7,
-        }
-    }
-}
-
-impl RecordFault {
-    pub fn told(&self) -> Fault
-        ensures { result ≡ record_told self.now }
-    {
-        Fault {
-            number: self.breach.number(),
-            section: self.section.number(),
-            ordinal: self.ordinal,
-            place: self.place,
-        }
-    }
-}
-
-impl SectionFault {
-    pub fn told(&self) -> Fault
-        ensures { result ≡ section_told self.now }
-    {
-        match self {
-            SectionFault::Pair(section) => Fault {
-                number: 2,
-                section: section.number(),
-                ordinal: 0,
-                place: match section {
-                    Section::Settings => 0,
-                    Section::Contracts => 8,
-                    Section::Calls => 16,
-                },
-            },
-            SectionFault::Length(section) => Fault {
-                number: 3,
-                section: section.number(),
-                ordinal: 0,
-                place: match section {
-                    Section::Settings => 4,
-                    Section::Contracts => 12,
-                    Section::Calls => 20,
-                },
-            },
-            SectionFault::Record(e) => e.told(),
-        }
-    }
-}
-
-impl FileFault {
-    pub fn told(&self) -> Fault
-        ensures { result ≡ file_told self.now }
-    {
-        match self {
-            FileFault::Size => Fault {
-                number: 1,
-                section: 0,
-                ordinal: 0,
-                place: 0,
-            },
-            FileFault::Section(e) => e.told(),
-        }
+        self as u8
     }
 }

@@ -1,6 +1,8 @@
 // Where the three sections stand.
 ghost use Rattle.std.specs.Prelude.{◌≡◌, ℕ, ◌+◌, ◌^◌, ◌<◌, ◌≤◌, length, IfOk};
-ghost use Rattle.dayfile.specs.Faults.{SectionPassed, section_number, pair_place, length_place};
+ghost use Rattle.dayfile.specs.Bytes.{value};
+ghost use Rattle.dayfile.specs.Layout.{column};
+ghost use Rattle.dayfile.specs.Faults.{SectionPassed, section_number, length_place};
 ghost use Rattle.dayfile.specs.Format.{start as start_of_lem, extent as extent_of, pair_fault, faulty, bad_length, sections_fault};
 ghost use Rattle.dayfile.specs.Located.{Located};
 
@@ -33,24 +35,13 @@ pub(crate) struct Sections {
     pub(crate) call_count: usize,
 }
 
-fn offset_column(section: Section) -> Column
-    ensures { result ≡ record { at = pair_place section; width = 4 } }
+// The number that four bytes of the pairs are.
+fn four(bytes: &[u8], at: usize) -> usize
+    requires { at + 4 ≤ length bytes.now }
+    ensures is { result ≡ value bytes.now (column at 4) }
+    ensures bound { result < 2 ^ 32 }
 {
-    match section {
-        Section::Settings => Column { at: 0, width: 4 },
-        Section::Contracts => Column { at: 8, width: 4 },
-        Section::Calls => Column { at: 16, width: 4 },
-    }
-}
-
-fn length_column(section: Section) -> Column
-    ensures { result ≡ record { at = length_place section; width = 4 } }
-{
-    match section {
-        Section::Settings => Column { at: 4, width: 4 },
-        Section::Contracts => Column { at: 12, width: 4 },
-        Section::Calls => Column { at: 20, width: 4 },
-    }
+    read(bytes, Column { at, width: 4 }) as usize
 }
 
 // The span of a section; the section before it ends at `previous`.
@@ -59,8 +50,8 @@ fn find(bytes: &[u8], section: Section, previous: usize) -> Result<Span, Section
     ensures fault { SectionPassed (pair_fault bytes.now section previous) result }
     ensures said { IfOk result (λ s. (s.start ≡ start_of_lem bytes.now section) × (s.extent ≡ extent_of bytes.now section) × (s.start + s.extent < 2 ^ 33)) }
 {
-    let start = read(bytes, offset_column(section)) as usize;
-    let extent = read(bytes, length_column(section)) as usize;
+    let start = four(bytes, section.pair_place());
+    let extent = four(bytes, section.length_place());
     if start < PAIRS || start < previous || start + extent > bytes.len() {
         return Err(SectionFault::Pair(section));
     }

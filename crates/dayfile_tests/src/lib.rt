@@ -3,6 +3,7 @@
 
 #[cfg(test)]
 mod tests {
+    use dayfile::fault::Fault;
     use dayfile::file::DayFile;
     use ledger::call::Call;
     use std::alloc::{AllocError, Global};
@@ -198,7 +199,7 @@ mod tests {
         match DayFile::read(bytes) {
             Ok(_) => SOUND,
             Err(e) => {
-                let fault = e.told();
+                let fault = Fault::from(e);
                 [
                     fault.number as usize,
                     fault.section as usize,

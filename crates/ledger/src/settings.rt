@@ -3,6 +3,7 @@ ghost use Rattle.std.specs.Prelude.{◌≤◌};
 ghost use Rattle.ledger.specs.Scales.{ScaleOf};
 
 use margin::number::UnknownNumber;
+use margin::percent::Percent;
 
 // The scale that the raises stand on.
 #[derive(Clone, Copy, PartialEq, Eq)]
@@ -25,19 +26,17 @@ impl TryFrom<u8> for BaseScale {
     }
 }
 
-// Raises are percentages; the first stands on the base scale, the second on the first. Bit 0 of `permitted` lets leg closes of
+// The first raise stands on the base scale, the second on the first. Bit 0 of `permitted` lets leg closes of
 // strategy 1, bit 5 those of strategy 6. The opening balance is whole hao (0.0001 yuan).
 #[derive(Clone, Copy)]
 pub struct Settings {
     pub scale: BaseScale,
-    pub first_raise: u8,
-    pub second_raise: u8,
+    pub first_raise: Percent,
+    pub second_raise: Percent,
     pub permitted: u8,
     pub first_number: u32,
     pub opening: u64,
     pub day: u16,
-    ghost first_raise_in_range: { first_raise ≤ 100 },
-    ghost second_raise_in_range: { second_raise ≤ 100 },
     ghost permitted_in_range: { permitted ≤ 63 },
     ghost first_number_in_range: { (1 ≤ first_number) × (first_number ≤ 4294967295) },
     ghost opening_in_range: { opening ≤ 10000000000000000 },

@@ -32,7 +32,7 @@ base_meaning Listed = listed_meaning
 
 -- the meaning of the day's scale: the base scale, raised by the first raise, and that by the second
 abbrev pub day_meaning : Settings → Meaning
-day_meaning s = raised_meaning s.second_raise (raised_meaning s.first_raise (base_meaning s.scale))
+day_meaning s = raised_meaning s.second_raise.value (raised_meaning s.first_raise.value (base_meaning s.scale))
 
 -- the first k calls of the file, each with its place from 1
 abbrev pub numbered_calls : List ℕ → ℕ → List (ℕ × Call)

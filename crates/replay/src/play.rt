@@ -1,5 +1,5 @@
 // Playing a day file on a book.
-ghost use Rattle.std.specs.Prelude.{◌≡◌, ◌≤◌, IfOk};
+ghost use Rattle.std.specs.Prelude.{◌≡◌, IfOk};
 ghost use Rattle.margin.specs.Listing.{listed};
 ghost use Rattle.margin.specs.Meaning.{meaning, raised_meaning};
 ghost use Rattle.ledger.specs.Runs.{Kept};
@@ -13,10 +13,10 @@ use crate::failure::Failure;
 use crate::report::{CallLine, EndLine, OpeningLine, Outcome, Report};
 use crate::text::fault_line;
 use book::Book;
+use dayfile::fault::Fault;
 use dayfile::file::DayFile;
 use ledger::call::Call;
 use ledger::settings::BaseScale;
-use margin::percent::Percent;
 use margin::scale::listed::ListedScale;
 use margin::scale::raised::RaisedScale;
 use margin::scale::standard::StandardScale;
@@ -83,17 +83,6 @@ fn play<S: CombinationScale>(
     })
 }
 
-// A raise of so many percent.
-fn raise(value: u8) -> Percent
-    requires { value ≤ 100 }
-    ensures { result.value ≡ value }
-{
-    let Some(percent) = Percent::new(value) else {
-        unreachable()
-    };
-    percent
-}
-
 // Plays the file over a scale, raised twice as the settings say.
 fn play_raised<S: CombinationScale + Drop>(
     heap: Global,
@@ -102,16 +91,16 @@ fn play_raised<S: CombinationScale + Drop>(
     base: S,
 ) -> Result<Report, Failure>
     requires { Says bytes.now file.now }
-    ensures { PlayedAs (raised_meaning file.now.settings.second_raise (raised_meaning file.now.settings.first_raise (meaning S.LegScale.leg_of S.CombinationScale.pair_of base))) bytes.now file.now.settings (listed file.now.listing) result }
+    ensures { PlayedAs (raised_meaning file.now.settings.second_raise.value (raised_meaning file.now.settings.first_raise.value (meaning S.LegScale.leg_of S.CombinationScale.pair_of base))) bytes.now file.now.settings (listed file.now.listing) result }
 {
     let settings = file.settings();
     let first = RaisedScale {
         base,
-        percent: raise(settings.first_raise),
+        percent: settings.first_raise,
     };
     let second = RaisedScale {
         base: first,
-        percent: raise(settings.second_raise),
+        percent: settings.second_raise,
     };
     play(heap, file, bytes, &second)
 }
@@ -133,7 +122,7 @@ pub fn report_text(heap: Global, bytes: &[u8]) -> Result<Vec<u8>, AllocError>
 {
     match replay(heap, bytes) {
         Ok(report) => report.text(heap),
-        Err(Failure::Faulty(fault)) => fault_line(heap, &fault.told()),
+        Err(Failure::Faulty(fault)) => fault_line(heap, &Fault::from(fault)),
         Err(Failure::OutOfMemory) => Err(AllocError),
     }
 }

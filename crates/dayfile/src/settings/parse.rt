@@ -12,6 +12,7 @@ use crate::field::{Column, Field};
 use crate::record::{Reader, Record, read};
 use crate::sections::SETTINGS;
 use ledger::settings::{BaseScale, Settings};
+use margin::percent::Percent;
 
 const SCALE: Column = Column { at: 0, width: 1 };
 
@@ -55,8 +56,12 @@ fn settings_in(bytes: &[u8]) -> Settings
     };
     Settings {
         scale,
-        first_raise: read(bytes, FIRST_RAISE) as u8,
-        second_raise: read(bytes, SECOND_RAISE) as u8,
+        first_raise: Percent {
+            value: read(bytes, FIRST_RAISE) as u8,
+        },
+        second_raise: Percent {
+            value: read(bytes, SECOND_RAISE) as u8,
+        },
         permitted: read(bytes, PERMITTED) as u8,
         first_number: read(bytes, FIRST_NUMBER) as u32,
         opening: read(bytes, OPENING),

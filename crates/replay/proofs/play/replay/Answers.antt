@@ -16,7 +16,7 @@ returns-in-Standard c =
     let d : DayFile = c.in_ok-file.file in
     let bytes = c.args.bytes.now in
     let r = c.play_raised.result in
-    let P : BaseScale → Type 0 = λ x. PlayedAs (raised_meaning d.settings.second_raise (raised_meaning d.settings.first_raise (base_meaning x))) bytes d.settings (listed d.listing) r in
+    let P : BaseScale → Type 0 = λ x. PlayedAs (raised_meaning d.settings.second_raise.value (raised_meaning d.settings.first_raise.value (base_meaning x))) bytes d.settings (listed d.listing) r in
     reported bytes d r c.in_ok-file.ensures (subst P (scale-is c.settings.result d.settings _ c.settings.ensures c.in-Standard.is) c.play_raised.ensures)
 
 pub returns-in-Listed : goal.returns-in-Listed
@@ -24,5 +24,5 @@ returns-in-Listed c =
     let d : DayFile = c.in_ok-file.file in
     let bytes = c.args.bytes.now in
     let r = c.play_raised-in-Listed.result in
-    let P : BaseScale → Type 0 = λ x. PlayedAs (raised_meaning d.settings.second_raise (raised_meaning d.settings.first_raise (base_meaning x))) bytes d.settings (listed d.listing) r in
+    let P : BaseScale → Type 0 = λ x. PlayedAs (raised_meaning d.settings.second_raise.value (raised_meaning d.settings.first_raise.value (base_meaning x))) bytes d.settings (listed d.listing) r in
     reported bytes d r c.in_ok-file.ensures (subst P (scale-is c.settings.result d.settings _ c.settings.ensures c.in-Listed.is) c.play_raised-in-Listed.ensures)
