@@ -1,4 +1,3 @@
 -- The lemmas behind the report.
 mod Telling
 mod Writing
-mod Digits

@@ -1,30 +1,32 @@
 -- A report line by line: what the lines so far tell of the book, and one line more.
-use Rattle.std.proofs.Common.{◌≡◌, ℕ, suc, ◌+◌, ◌<◌, List, [], ◌∷◌, ◌++◌, map, length, Some, Ok, Err, Result, sym, refl, ap, ◌∙◌, subst, add-one}
+use Rattle.std.proofs.Common.{◌≡◌, ℕ, suc, ◌+◌, ◌<◌, List, [], ◌∷◌, ◌++◌, map, length, Some, Ok, Err, Result, MatchResult, sym, refl, ap, ◌∙◌, subst, add-one}
 use Rattle.margin.specs.declared.contract.Contract.{Contract}
 use Rattle.margin.specs.declared.listing.Listing.{Listing}
 use Rattle.margin.specs.Listing.{listed}
-use Rattle.margin.specs.Meaning.{Meaning}
+use Rattle.margin.specs.Meaning.{Meaning, raised_meaning}
 use Rattle.ledger.specs.declared.call.Call.{Call}
+use Rattle.ledger.specs.declared.settings.BaseScale.{BaseScale}
 use Rattle.ledger.specs.declared.settings.Settings.{Settings}
 use Rattle.ledger.specs.declared.tables.Tables.{Tables}
 use Rattle.ledger.specs.Keeps.{Opened, KeptBy}
 use Rattle.ledger.specs.Law.{contracts_of, margin_held, reserves}
 use Rattle.ledger.specs.Ledger.{Ledger}
 use Rattle.std.proofs.lemmas.Option.{same_Some}
+use Rattle.ledger.specs.Tests.{Answer}
+use Rattle.ledger.proofs.Answered.{balance_answered}
+use Rattle.ledger.specs.declared.refusal.Refusal.{Refusal}
 use Rattle.ledger.specs.Runs.{ByTheRules, Run, Law, LawAlong, Kept, fed}
 use Rattle.ledger.specs.Runs.Run.{start}
 use Rattle.ledger.proofs.Running.{run_on, run_law, contracts_stay}
 use Rattle.dayfile.specs.declared.file.DayFile.{DayFile}
 use Rattle.dayfile.specs.Format.{call_at}
 use Rattle.dayfile.specs.Read.{Says, OwnCall}
-use Rattle.replay.specs.declared.failure.Failure.{Failure}
-use Rattle.replay.specs.declared.failure.Failure.TheVariants.{Faulty, OutOfMemory}
 use Rattle.replay.specs.declared.report.Report.{Report}
 use Rattle.replay.specs.declared.report.CallLine.{CallLine}
 use Rattle.replay.specs.declared.report.EndLine.{EndLine}
 use Rattle.replay.specs.declared.report.OpeningLine.{OpeningLine}
 use Rattle.replay.specs.Lines.{answer_of, event_of, events_of, LineOf, ledger_after, Explained, BalancesExplained}
-use Rattle.replay.specs.Replayed.{day_meaning, numbered_calls, place_and_call, first_ledger, Told, PlayedAs, Replayed}
+use Rattle.replay.specs.Replayed.{base_meaning, numbered_calls, place_and_call, first_ledger, Told, DayReport, Reported}
 
 map_on : {A B : Type 0} (f : A → B) (xs : List A) (x : A) → map f (xs ++ x ∷ []) ≡ map f xs ++ f x ∷ []
 map_on f [] x = refl
@@ -46,6 +48,13 @@ explained m b l balance law is =
     ∙ ap (λ x. b.funds.balance + x + reserves m (contracts_of b) l + l.went_out) (sym law.beside.held)
     ∙ ap (λ x. b.funds.balance + b.funds.held + x + l.went_out) (sym law.beside.reserved)
     ∙ law.beside.sum
+
+-- the answer that a line tells is the one that the book gave: its number or its refusal, and the balance that the book then has
+pub answer_told : (m : Meaning) (b : Tables) (c : Call) (a : Answer) (outcome : Result ℕ Refusal) (balance : ℕ) (after : Tables) →
+    ByTheRules m b c a after → MatchResult a (λ x. outcome ≡ Ok x.0) (λ e. outcome ≡ Err e) → balance ≡ after.funds.balance → a ≡ answer_of outcome balance
+answer_told m b c (Ok x) outcome balance after by is same =
+    ap (λ (n : ℕ). Ok (x.0, n)) (balance_answered m b c x after by ∙ sym same) ∙ ap (λ o. answer_of o balance) (sym is)
+answer_told m b c (Err e) outcome balance after by is same = ap (λ o. answer_of o balance) (sym is)
 
 -- the lines of the first k calls, on a book that started at `first` and is now at `now`
 pub record SoFar (m : Meaning) (cs : List Contract) (bytes : List ℕ) (l : Ledger) (first : Tables) (k : ℕ) (lines : List CallLine) (now : Tables) : Type 0 where
@@ -128,11 +137,19 @@ next_told m d bytes l first k c lines items line now after says below own told k
     subst (λ xs. SoFar m (listed d.listing) bytes l first (k + 1) xs after) (sym pushed)
     (one_told m (listed d.listing) bytes l first k lines line now after s (subst (λ x. LineOf m now (k + 1) x line after) is told) (subst (λ x. KeptBy m now x a after) is kept))
 
--- the report of a file that was read from the bytes is theirs
-pub reported : (bytes : List ℕ) (d : DayFile) (r : Result Report Failure) → Says bytes d → PlayedAs (day_meaning d.settings) bytes d.settings (listed d.listing) r → Replayed bytes r
-reported bytes d (Ok report) says h = record { sound = says.sound; settings = d.settings; settings_are = says.settings; contracts = listed d.listing; contracts_are = says.contracts; day = h }
-reported bytes d (Err (Faulty e)) says h = absurd h
-reported bytes d (Err OutOfMemory) says h = says.sound
+-- the report of a file that was read from the bytes is theirs, over the base scale that its settings name
+pub reported : (bytes : List ℕ) (d : DayFile) (s : Settings) (scale : BaseScale) (report : Report) → Says bytes d → s ≡ d.settings → s.scale ≡ scale →
+    DayReport (raised_meaning d.settings.second_raise (raised_meaning d.settings.first_raise (base_meaning scale))) bytes d.settings (listed d.listing) report → Reported bytes report
+reported bytes d s scale report says same is h =
+    let named : scale ≡ d.settings.scale = sym is ∙ ap (λ (z : Settings). z.scale) same in
+    record {
+      sound = says.sound;
+      settings = d.settings;
+      settings_are = says.settings;
+      contracts = listed d.listing;
+      contracts_are = says.contracts;
+      day = subst (λ x. DayReport (raised_meaning d.settings.second_raise (raised_meaning d.settings.first_raise (base_meaning x))) bytes d.settings (listed d.listing) report) named h;
+    }
 
 pub opening_line : (s t : Settings) (xs ys : List Contract) → s ≡ t → xs ≡ ys → ◌≡◌ {A = OpeningLine} (record { day = s.day; contracts = length xs; balance = s.opening }) (record { day = t.day; contracts = length ys; balance = t.opening })
 opening_line s t xs ys p q =

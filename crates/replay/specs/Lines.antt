@@ -1,21 +1,20 @@
 -- What the call lines of a report say: the calls made with their answers, and the ledger fed by them. Assumes nothing.
-use Rattle.std.specs.Prelude.{◌≡◌, ℕ, ◌+◌, List, [], ◌∷◌, map, Ok, Err}
+use Rattle.std.specs.Prelude.{◌≡◌, ℕ, ◌+◌, List, [], ◌∷◌, map, Ok, Err, Result}
 use Rattle.margin.specs.declared.contract.Contract.{Contract}
 use Rattle.margin.specs.Meaning.{Meaning}
 use Rattle.ledger.specs.declared.call.Call.{Call}
+use Rattle.ledger.specs.declared.refusal.Refusal.{Refusal}
 use Rattle.ledger.specs.declared.tables.Tables.{Tables}
 use Rattle.ledger.specs.Ledger.{Ledger}
 use Rattle.ledger.specs.Law.{margin_held, reserves}
 use Rattle.ledger.specs.Runs.{Event, ByTheRules, fed}
 use Rattle.ledger.specs.Tests.{Answer}
-use Rattle.replay.specs.declared.report.Outcome.{Outcome}
-use Rattle.replay.specs.declared.report.Outcome.TheVariants.{Taken, Refused}
 use Rattle.replay.specs.declared.report.CallLine.{CallLine}
 
 -- the answer that a line tells
-abbrev pub answer_of : Outcome → ℕ → Answer
-answer_of (Taken number) balance = Ok (number, balance)
-answer_of (Refused refusal) balance = Err refusal
+abbrev pub answer_of : Result ℕ Refusal → ℕ → Answer
+answer_of (Ok number) balance = Ok (number, balance)
+answer_of (Err refusal) balance = Err refusal
 
 abbrev pub event_of : CallLine → Event
 event_of x = record { made = x.call; answer = answer_of x.outcome x.balance }

@@ -84,12 +84,6 @@ Replayed bytes (Ok report) = Reported bytes report
 Replayed bytes (Err (Faulty e)) = file_fault bytes ≡ Some (file_told e)
 Replayed bytes (Err OutOfMemory) = file_fault bytes ≡ None
 
--- the same where the bytes are known to have no fault: a report, or no memory
-abbrev pub PlayedAs : Meaning → List ℕ → Settings → List Contract → Result Report Failure → Type 0
-PlayedAs m bytes s cs (Ok report) = DayReport m bytes s cs report
-PlayedAs m bytes s cs (Err (Faulty e)) = ⊥
-PlayedAs m bytes s cs (Err OutOfMemory) = Unit {0}
-
 -- The text of a day file's report, from its bytes: the line of their fault, or the text of their report.
 abbrev pub TextOf : List ℕ → List ℕ → Type 0
 TextOf bytes text = elim (file_fault bytes) [ Some fault ↦ text ≡ line (fault_text fault) | None ↦ (report : Report) × (Reported bytes report × (text ≡ report_text report)) ]

@@ -1,9 +1,9 @@
 -- The lines of a report as text, numbers in decimal. Assumes nothing.
-use Rattle.std.specs.Prelude.{ℕ, List, [], ◌∷◌, ◌++◌, vec_items, codes, decimal}
+use Rattle.std.specs.Prelude.{ℕ, List, [], ◌∷◌, ◌++◌, vec_items, codes, decimal, Ok, Err, Result}
+use Rattle.std.specs.List.{flat_map}
 use Rattle.ledger.specs.Calls.{call_name}
 use Rattle.ledger.specs.Refusals.{number_of}
-use Rattle.replay.specs.declared.report.Outcome.{Outcome}
-use Rattle.replay.specs.declared.report.Outcome.TheVariants.{Taken, Refused}
+use Rattle.ledger.specs.declared.refusal.Refusal.{Refusal}
 use Rattle.replay.specs.declared.report.OpeningLine.{OpeningLine}
 use Rattle.replay.specs.declared.report.CallLine.{CallLine}
 use Rattle.replay.specs.declared.report.EndLine.{EndLine}
@@ -14,9 +14,9 @@ abbrev pub opening_text : OpeningLine → List ℕ
 opening_text x = codes "day " ++ (decimal x.day ++ (codes " contracts " ++ (decimal x.contracts ++ (codes " balance " ++ decimal x.balance))))
 
 -- taken with the number given, or refused with the refusal's number
-abbrev pub outcome_text : Outcome → List ℕ
-outcome_text (Taken number) = codes " taken " ++ decimal number
-outcome_text (Refused refusal) = codes " refused " ++ decimal (number_of refusal)
+abbrev pub outcome_text : Result ℕ Refusal → List ℕ
+outcome_text (Ok number) = codes " taken " ++ decimal number
+outcome_text (Err refusal) = codes " refused " ++ decimal (number_of refusal)
 
 -- PLACE NAME OUTCOME BALANCE
 abbrev pub call_text : CallLine → List ℕ
@@ -31,8 +31,7 @@ abbrev pub line : List ℕ → List ℕ
 line text = text ++ 10 ∷ []
 
 abbrev pub call_lines : List CallLine → List ℕ
-call_lines [] = []
-call_lines (x ∷ xs) = line (call_text x) ++ call_lines xs
+call_lines lines = flat_map (λ x. line (call_text x)) lines
 
 -- the whole report
 abbrev pub report_text : Report → List ℕ

@@ -2,9 +2,8 @@
 ghost use Rattle.std.specs.Prelude.{◌≡◌};
 ghost use Rattle.replay.specs.declared.failure.Failure.TheVariants.{Faulty as BadFile, OutOfMemory as NoMemory};
 
-use crate::report::CallLine;
 use dayfile::fault::FileFault;
-use std::alloc::AllocFailed;
+use std::alloc::AllocError;
 
 #[derive(Clone, Copy)]
 pub enum Failure {
@@ -20,10 +19,10 @@ impl From<FileFault> for Failure {
     }
 }
 
-impl From<AllocFailed<CallLine>> for Failure {
+impl From<AllocError> for Failure {
     ghost from_gives = { λ e r. r ≡ NoMemory };
 
-    fn from(_refused: AllocFailed<CallLine>) -> Failure {
+    fn from(_error: AllocError) -> Failure {
         Failure::OutOfMemory
     }
 }

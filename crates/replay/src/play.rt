@@ -7,10 +7,10 @@ ghost use Rattle.ledger.specs.Keeps.{KeptBy};
 ghost use Rattle.book.specs.Book.{tables_of};
 ghost use Rattle.dayfile.specs.Read.{Says};
 ghost use Rattle.replay.specs.Lines.{LineOf, answer_of};
-ghost use Rattle.replay.specs.Replayed.{PlayedAs, Replayed, TextOf};
+ghost use Rattle.replay.specs.Replayed.{DayReport, Replayed, TextOf};
 
 use crate::failure::Failure;
-use crate::report::{CallLine, EndLine, OpeningLine, Outcome, Report};
+use crate::report::{CallLine, EndLine, OpeningLine, Report};
 use crate::text::fault_line;
 use book::Book;
 use dayfile::fault::Fault;
@@ -29,19 +29,12 @@ fn play_call<S: CombinationScale>(book: &mut Book, scale: &S, place: usize, call
     ensures line { LineOf (meaning S.LegScale.leg_of S.CombinationScale.pair_of scale.now) (tables_of book.old) place call result (tables_of book.new) }
     ensures law { KeptBy (meaning S.LegScale.leg_of S.CombinationScale.pair_of scale.now) (tables_of book.old) call (answer_of result.outcome result.balance) (tables_of book.new) }
 {
-    match book.apply(scale, call) {
-        Ok((number, balance)) => CallLine {
-            place,
-            call,
-            outcome: Outcome::Taken { number },
-            balance,
-        },
-        Err(refusal) => CallLine {
-            place,
-            call,
-            outcome: Outcome::Refused { refusal },
-            balance: book.balance(),
-        },
+    let outcome = book.apply(scale, call).map(|(number, _)| number);
+    CallLine {
+        place,
+        call,
+        outcome,
+        balance: book.balance(),
     }
 }
 
@@ -51,9 +44,9 @@ fn play<S: CombinationScale>(
     file: &DayFile,
     bytes: &[u8],
     scale: &S,
-) -> Result<Report, Failure>
+) -> Result<Report, AllocError>
     requires { Says bytes.now file.now }
-    ensures { PlayedAs (meaning S.LegScale.leg_of S.CombinationScale.pair_of scale.now) bytes.now file.now.settings (listed file.now.listing) result }
+    ensures { IfOk result (DayReport (meaning S.LegScale.leg_of S.CombinationScale.pair_of scale.now) bytes.now file.now.settings (listed file.now.listing)) }
 {
     let settings = file.settings();
     let listing = file.listing();
@@ -89,9 +82,9 @@ fn play_raised<S: CombinationScale + Drop>(
     file: &DayFile,
     bytes: &[u8],
     base: S,
-) -> Result<Report, Failure>
+) -> Result<Report, AllocError>
     requires { Says bytes.now file.now }
-    ensures { PlayedAs (raised_meaning file.now.settings.second_raise.value (raised_meaning file.now.settings.first_raise.value (meaning S.LegScale.leg_of S.CombinationScale.pair_of base))) bytes.now file.now.settings (listed file.now.listing) result }
+    ensures { IfOk result (DayReport (raised_meaning file.now.settings.second_raise.value (raised_meaning file.now.settings.first_raise.value (meaning S.LegScale.leg_of S.CombinationScale.pair_of base))) bytes.now file.now.settings (listed file.now.listing)) }
 {
     let settings = file.settings();
     let first = RaisedScale {
@@ -110,10 +103,10 @@ pub fn replay(heap: Global, bytes: &[u8]) -> Result<Report, Failure>
     ensures { Replayed bytes.now result }
 {
     let file = DayFile::read(bytes)?;
-    match file.settings().scale {
-        BaseScale::Standard => play_raised(heap, &file, bytes, StandardScale),
-        BaseScale::Listed => play_raised(heap, &file, bytes, ListedScale),
-    }
+    Ok(match file.settings().scale {
+        BaseScale::Standard => play_raised(heap, &file, bytes, StandardScale)?,
+        BaseScale::Listed => play_raised(heap, &file, bytes, ListedScale)?,
+    })
 }
 
 // The text of a day file's report: its lines, or the line of the file's fault. There is none only where memory is wanting.

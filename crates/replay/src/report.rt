@@ -2,13 +2,6 @@
 use ledger::call::Call;
 use ledger::refusal::Refusal;
 
-// What became of a call: taken with the number given, 0 where none is, or refused.
-#[derive(Clone, Copy)]
-pub enum Outcome {
-    Taken { number: u32 },
-    Refused { refusal: Refusal },
-}
-
 // The day, how many contracts are listed, and the opening balance.
 #[derive(Clone, Copy)]
 pub struct OpeningLine {
@@ -17,12 +10,12 @@ pub struct OpeningLine {
     pub balance: u64,
 }
 
-// A call at its place in the file from 1, what became of it, and the balance after it.
+// A call at its place in the file from 1, the number that it gave (0 where it gives none) or its refusal, and the balance after it.
 #[derive(Clone, Copy)]
 pub struct CallLine {
     pub place: usize,
     pub call: Call,
-    pub outcome: Outcome,
+    pub outcome: Result<u32, Refusal>,
     pub balance: u64,
 }
 

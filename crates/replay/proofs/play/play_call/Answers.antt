@@ -1,21 +1,18 @@
-use Rattle.std.proofs.Common.{refl}
+use Rattle.std.proofs.Common.{◌≡◌, refl, subst, rules}
 use Rattle.margin.specs.Meaning.{Meaning, meaning}
-use Rattle.ledger.proofs.Answered.{balance_answered}
+use Rattle.ledger.specs.Keeps.{KeptBy}
+use Rattle.ledger.specs.Runs.{ByTheRules}
+use Rattle.replay.specs.Lines.{answer_of}
+use Rattle.replay.proofs.Telling.{answer_told}
 use Rattle.replay.proofs.play.play_call.Goals as goal
 
-pub returns-in-Ok : goal.returns-in-Ok
-returns-in-Ok g c =
+pub returns : goal.returns
+returns g c =
     let m : Meaning = meaning g.S.LegScale.leg_of g.S.CombinationScale.pair_of c.args.scale.now in
-    let told = c.in-Ok.ensures in
+    let before = c.args.book.now.tables in
+    let after = c.apply.new.self.tables in
+    let told : c.apply.result ≡ answer_of c.map-outcome.result c.balance.result = answer_told m before c.args.call c.apply.result c.map-outcome.result c.balance.result after c.apply.ensures.answer (search rules) c.balance.ensures in
     record {
-      line = record {
-        place_is = refl;
-        call_is = refl;
-        answered = told.answer;
-        balance_is = balance_answered m c.args.book.now.tables c.args.call (c.in-Ok.number, c.in-Ok.balance) c.apply.new.self.tables told.answer;
-      };
-      law = told.law;
+      line = record { place_is = refl; call_is = refl; answered = subst (λ a. ByTheRules m before c.args.call a after) told c.apply.ensures.answer; balance_is = c.balance.ensures };
+      law = subst (λ a. KeptBy m before c.args.call a after) told c.apply.ensures.law;
     }
-
-pub returns-in-Err : goal.returns-in-Err
-returns-in-Err g c = let told = c.in-Err.ensures in record { line = record { place_is = refl; call_is = refl; answered = told.answer; balance_is = c.balance.ensures }; law = told.law }
