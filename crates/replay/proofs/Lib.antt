@@ -1,3 +1,2 @@
 -- The lemmas behind the report.
 mod Telling
-mod Writing

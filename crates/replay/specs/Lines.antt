@@ -1,5 +1,5 @@
 -- What the call lines of a report say: the calls made with their answers, and the ledger fed by them. Assumes nothing.
-use Rattle.std.specs.Prelude.{◌≡◌, ℕ, ◌+◌, List, [], ◌∷◌, map, Ok, Err, Result}
+use Rattle.std.specs.Prelude.{◌≡◌, ℕ, ◌+◌, List, [], ◌∷◌, map, fold, Ok, Err, Result}
 use Rattle.margin.specs.declared.contract.Contract.{Contract}
 use Rattle.margin.specs.Meaning.{Meaning}
 use Rattle.ledger.specs.declared.call.Call.{Call}
@@ -31,8 +31,7 @@ pub record LineOf (m : Meaning) (b : Tables) (place : ℕ) (c : Call) (line : Ca
 
 -- the ledger after some lines: fed with the call of each line that tells a call taken, and with nothing else
 abbrev pub ledger_after : List Contract → List CallLine → Ledger → Ledger
-ledger_after cs [] l = l
-ledger_after cs (x ∷ xs) l = ledger_after cs xs (fed cs (event_of x) l)
+ledger_after cs lines l = fold (λ before x. fed cs (event_of x) before) l lines
 
 -- a balance is explained by a ledger: with the margin held and the reserves of what stands there, it comes to the cash that came in less the cash that went out
 abbrev pub Explained : Meaning → List Contract → Ledger → ℕ → Type 0
