@@ -1,7 +1,7 @@
 -- The six strategies: their numbers, and which of the two legs are written. Assumes nothing.
 use Rattle.std.specs.Prelude.{◌≡◌, ℕ, Bool, true, false, cond, List, [], ◌∷◌, Some, None, Option, Ok, Err, Result, ◌==◌, ◌≢◌}
 use Rattle.margin.specs.declared.strategy.Strategy.{Strategy}
-use Rattle.margin.specs.declared.strategy.UnknownStrategy.{UnknownStrategy}
+use Rattle.margin.specs.declared.number.UnknownNumber.{UnknownNumber}
 use Rattle.margin.specs.declared.strategy.Strategy.TheVariants.{BullCallSpread, BearCallSpread, BullPutSpread, BearPutSpread, ShortStraddle, ShortStrangle}
 
 -- the number of each strategy
@@ -31,9 +31,9 @@ HasNumber n (Some s) = strategy_number s ≡ n
 HasNumber n None = (s : Strategy) → strategy_number s ≢ n
 
 -- what a number is turned into: the strategy that has it; or, where none has, the number again
-abbrev pub Numbered : ℕ → Result Strategy UnknownStrategy → Type 0
-Numbered n (Ok s) = (strategy_of n ≡ Some s) × HasNumber n (Some s)
-Numbered n (Err e) = (strategy_of n ≡ None) × HasNumber n None × (e.0 ≡ n)
+abbrev pub StrategyOf : ℕ → Result Strategy UnknownNumber → Type 0
+StrategyOf n (Ok s) = (strategy_of n ≡ Some s) × HasNumber n (Some s)
+StrategyOf n (Err e) = (strategy_of n ≡ None) × HasNumber n None × (e.0 ≡ n)
 
 -- a spread's first leg is bought; a straddle's and a strangle's is written. The second leg is written in all six.
 abbrev pub first_written : Strategy → Bool

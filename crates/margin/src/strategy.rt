@@ -1,6 +1,8 @@
 // The six strategies that combine two contracts. A spread buys its first leg and writes its second; a straddle and a strangle write both.
 ghost use Rattle.std.specs.Prelude.{◌≡◌, Some};
-ghost use Rattle.margin.specs.Strategies.{strategy_number, strategy_of, Numbered, first_written};
+ghost use Rattle.margin.specs.Strategies.{strategy_number, strategy_of, StrategyOf, first_written};
+
+use crate::number::UnknownNumber;
 
 #[derive(Clone, Copy, PartialEq, Eq)]
 pub enum Strategy {
@@ -12,17 +14,13 @@ pub enum Strategy {
     ShortStrangle = 6,
 }
 
-// A number that no strategy has.
-#[derive(Clone, Copy, PartialEq, Eq, Debug)]
-pub struct UnknownStrategy(pub u8);
-
 impl TryFrom<u8> for Strategy {
-    type Error = UnknownStrategy;
+    type Error = UnknownNumber;
 
-    ghost try_from_gives = { Numbered };
+    ghost try_from_gives = { StrategyOf };
 
     // The strategy of a number, if one has it.
-    fn try_from(number: u8) -> Result<Strategy, UnknownStrategy> {
+    fn try_from(number: u8) -> Result<Strategy, UnknownNumber> {
         match number {
             1 => Ok(Strategy::BullCallSpread),
             2 => Ok(Strategy::BearCallSpread),
@@ -30,7 +28,7 @@ impl TryFrom<u8> for Strategy {
             4 => Ok(Strategy::BearPutSpread),
             5 => Ok(Strategy::ShortStraddle),
             6 => Ok(Strategy::ShortStrangle),
-            _ => Err(UnknownStrategy(number)),
+            _ => Err(UnknownNumber(number)),
         }
     }
 }

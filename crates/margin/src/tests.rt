@@ -1,12 +1,13 @@
 // The edges of each rule: every strategy's fit, each formula's turning points, the largest margins.
 use crate::contract::{Contract, Kind, Right};
+use crate::number::UnknownNumber;
 use crate::pair::FittedPair;
 use crate::percent::Percent;
 use crate::scale::listed::ListedScale;
 use crate::scale::raised::RaisedScale;
 use crate::scale::standard::StandardScale;
 use crate::scale::{CombinationScale, LegScale};
-use crate::strategy::{Strategy, UnknownStrategy};
+use crate::strategy::Strategy;
 use std::test::Fail;
 
 // The terms that a margin depends on; prices in hao.
@@ -74,7 +75,7 @@ fn strategies_by_number(rt: HostRuntime) {
         match Strategy::try_from(number) {
             Ok(strategy) => assert_eq!(rt; strategy.number(), number),
             Err(unknown) => {
-                assert_eq!(rt; unknown, UnknownStrategy(number));
+                assert_eq!(rt; unknown, UnknownNumber(number));
                 assert!(rt; number == 0 || number == 7);
             }
         }

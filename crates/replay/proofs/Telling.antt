@@ -100,7 +100,7 @@ module _ (m : Meaning) (s : Settings) (cs : List Contract) (bytes : List ℕ) (f
 
 -- the report of a file that was read from the bytes is theirs, over the base scale that its settings name
 pub reported : (bytes : List ℕ) (d : DayFile) (s : Settings) (scale : BaseScale) (report : Report) → Says bytes d → s ≡ d.settings → s.scale ≡ scale →
-    DayReport (raised_meaning d.settings.second_raise (raised_meaning d.settings.first_raise (base_meaning scale))) bytes d.settings (listed d.listing) report → Reported bytes report
+    DayReport (raised_meaning d.settings.second_raise.value (raised_meaning d.settings.first_raise.value (base_meaning scale))) bytes d.settings (listed d.listing) report → Reported bytes report
 reported bytes d s scale report says same is h =
     let named : scale ≡ d.settings.scale = sym is ∙ ap (λ (z : Settings). z.scale) same in
     record {
@@ -109,7 +109,7 @@ reported bytes d s scale report says same is h =
       settings_are = says.settings;
       contracts = listed d.listing;
       contracts_are = says.contracts;
-      day = subst (λ x. DayReport (raised_meaning d.settings.second_raise (raised_meaning d.settings.first_raise (base_meaning x))) bytes d.settings (listed d.listing) report) named h;
+      day = subst (λ x. DayReport (raised_meaning d.settings.second_raise.value (raised_meaning d.settings.first_raise.value (base_meaning x))) bytes d.settings (listed d.listing) report) named h;
     }
 
 -- the text of a report of the bytes is their text
