@@ -1,14 +1,12 @@
 -- A leg close keeps the law.
-use Rattle.std.proofs.Common.{◌≡◌, ℕ, ◌+◌, ◌-◌, ◌*◌, ◌^◌, ◌≤◌, true, eqb, List, Some, Ok, Option, sym, refl, ap, ◌∙◌, subst, ⊎_elim, arith}
+use Rattle.std.proofs.Common.{◌≡◌, ℕ, ◌+◌, ◌-◌, ◌*◌, ◌^◌, ◌≤◌, true, cond, eqb, Some, Ok, Option, sym, refl, ap, subst, arith}
 use Rattle.register.specs.Numbers.{next_of}
 use Rattle.std.proofs.lemmas.Bool.Decides.{nat_tests}
-use Rattle.std.proofs.lemmas.Option.{same_Some}
-use Rattle.std.proofs.lemmas.Bool.{ltb-false, cases_eq, cond-true, cond-false, eq-eqb, ne_eqb, or_parts, not-false}
+use Rattle.std.proofs.lemmas.Bool.{ltb-false, or_parts, not-false}
 use Rattle.margin.specs.ByCode.{by_code}
 use Rattle.margin.specs.declared.contract.Contract.{Contract}
-use Rattle.register.specs.declared.row.Row.{Row}
 use Rattle.register.specs.Rows.{lookup, changed}
-use Rattle.register.proofs.After.{lookup_changed, apart_changed}
+use Rattle.register.proofs.After.{apart_changed}
 use Rattle.ledger.specs.declared.call.Call.TheVariants as call
 use Rattle.ledger.specs.declared.order.Order.{Order}
 use Rattle.ledger.specs.declared.order.Combination.{Combination}
@@ -17,7 +15,7 @@ use Rattle.ledger.specs.declared.tables.Tables.{Tables}
 use Rattle.margin.specs.Meaning.{Meaning}
 use Rattle.ledger.specs.Ledger.{Ledger, under, order_entered, account_of}
 use Rattle.ledger.specs.Content.{Pairing}
-use Rattle.ledger.specs.Law.{contracts_of, engaged, engages, combination_under, when}
+use Rattle.ledger.specs.Law.{contracts_of, engaged, engages, when}
 use Rattle.ledger.specs.Amounts.{leg_close_reserve}
 use Rattle.ledger.specs.Tests.{Answer}
 use Rattle.ledger.specs.OrderRules.{OrderTaken}
@@ -28,14 +26,7 @@ use Rattle.ledger.proofs.Tests.{Stays, standing_at, unmet, within, some_of, stan
 use Rattle.ledger.proofs.Entries.{weighed_cons}
 use Rattle.ledger.proofs.Moved.{all_alike}
 use Rattle.ledger.proofs.Entering.{entered_keeps}
-use Rattle.ledger.proofs.Pairings.{combination_with, row_of, combination_at}
-
--- engaged lots of a row that are more
-pub row_engaged : (rows : List (Row Combination)) (n k eng now later : ℕ) (p : Pairing) (o : Option Pairing) →
-    lookup rows n ≡ Some (combination_with eng p) → (n ≡ k → (o ≡ Some p)) → (n ≡ k → later ≡ now) → ((n ≡ k → ⊥) → lookup rows k ≡ combination_under later o) →
-    lookup (changed rows n (combination_with now p)) k ≡ combination_under later o
-row_engaged rows n k eng now later p o s here same else =
-    let row = lookup_changed rows n k (combination_with now p) (combination_with eng p) s in grind (arith, nat_tests)
+use Rattle.ledger.proofs.Pairings.{combination_with, engaged_row, combination_at}
 
 module _ (m : Meaning) (b : Tables) (n code lots limit : ℕ) where
   -- the call, where its combination is known
@@ -48,10 +39,8 @@ module _ (m : Meaning) (b : Tables) (n code lots limit : ℕ) where
   engaged_keeps l p c r after law stands is some_lots priced leg free enough number taken =
       let o : Order = record { account = p.account; kind = LegClose n code; lots = lots; limit = limit } in
       let l' : Ledger = order_entered o l in
-      let found = row_of law n p stands in
       let more : (k : ℕ) → engaged l' k ≡ when (eqb n k) lots + engaged l k = λ k. weighed_cons (λ (z : Order). engages k z z.kind) l.next_order o l.orders in
-      let here : (k : ℕ) → n ≡ k → engaged l' k ≡ engaged l n + lots = λ k e. omega (arith, more k, cond-true _ lots 0 (eq-eqb n k e), ap (engaged l) e) in
-      let else : (k : ℕ) → (n ≡ k → ⊥) → engaged l' k ≡ engaged l k = λ k ne. omega (arith, more k, cond-false _ lots 0 (ne_eqb n k ne)) in
+      let now : (k : ℕ) → engaged l' k ≡ cond (eqb n k) (engaged l n + lots) (engaged l k) = λ k. let sum = more k in grind (arith, nat_tests) in
       entered_keeps m l b o (lots * leg_close_reserve m (contracts_of b) code limit (Some p)) b.positions (changed b.combinations n (combination_with (engaged l n + lots) p)) r after law
       (record {
         sound = record { account = (law.sound.combinations n p stands).account; contract = (c, is); lots = some_lots; limit = priced; leg = record { combination = p; stands = stands; account = refl; leg = leg } };
@@ -60,12 +49,9 @@ module _ (m : Meaning) (b : Tables) (n code lots limit : ℕ) where
         number = number;
         rows = law.sound.position_rows;
         lots = all_alike l l' b law.beside.lots (λ x y. record { bought = refl; written = refl; claimed_bought = refl; claimed_written = refl });
-        combinations = λ k. row_engaged b.combinations n k (engaged l n) (engaged l n + lots) (engaged l' k) p (under l.combinations k) found
-            (λ e. ap (under l.combinations) (sym e) ∙ stands) (λ e. here k e) (λ ne. law.beside.combinations k ∙ ap (λ z. combination_under z (under l.combinations k)) (sym (else k ne)));
+        combinations = λ k. engaged_row law n p (engaged l n + lots) (engaged l' k) k stands (now k);
         apart = apart_changed b.combinations n (combination_with (engaged l n + lots) p) law.sound.combination_rows;
-        engaged_most = λ k q s. ⊎_elim
-            (λ e. let same : q ≡ p = same_Some _ _ (sym s ∙ ap (under l.combinations) (sym e) ∙ stands) in omega (arith, here k e, ap (λ (z : Pairing). z.lots) same, free, some_lots))
-            (λ ne. omega (arith, else k ne, law.sound.engaged_most k q s)) (cases_eq n k);
+        engaged_most = λ k q s. let most = law.sound.engaged_most k q s in let now_is = now k in let low : 1 ≤ lots = some_lots.0 in grind (arith, nat_tests);
         written_most = λ x y. omega (arith, law.sound.written_most x y);
         bought_most = λ x y. omega (arith, law.sound.bought_most x y);
       })

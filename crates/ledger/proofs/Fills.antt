@@ -1,6 +1,7 @@
 -- Fill and cancel keep the law.
 use Rattle.std.proofs.Common.{◌≡◌, ℕ, ◌+◌, ◌-◌, ◌*◌, ◌^◌, ◌≤◌, false, cond, ◌&&◌, eqb, ltb, List, [], ◌∷◌, Some, None, Option, sym, refl, ap, ◌∙◌, subst, arith}
-use Rattle.std.proofs.lemmas.Bool.{ltb-false, cond-true, cond-false, eq-eqb, ne_eqb}
+use Rattle.std.proofs.lemmas.Bool.Decides.{nat_tests}
+use Rattle.std.proofs.lemmas.Bool.{ltb-false}
 use Rattle.register.specs.declared.row.Row.{Row}
 use Rattle.register.specs.Rows.{lookup, changed}
 use Rattle.register.proofs.After.{apart_changed}
@@ -26,8 +27,7 @@ use Rattle.ledger.proofs.Codes.{one_here}
 use Rattle.ledger.proofs.Covered.{flow_covered}
 use Rattle.ledger.proofs.Leaving.{left, left_tables, Part, engaged_left}
 use Rattle.ledger.proofs.Plain.{returned, stays, freed as unlocked, opened, closed, moving_keeps, still_keeps}
-use Rattle.ledger.proofs.Engaging.{row_engaged}
-use Rattle.ledger.proofs.Pairings.{combination_with, row_of, order_at}
+use Rattle.ledger.proofs.Pairings.{combination_with, engaged_row, row_of, order_at}
 use Rattle.ledger.proofs.Others.{OtherLeg, other_of}
 use Rattle.ledger.proofs.Fillable.{fillable}
 use Rattle.ledger.proofs.LegFill.{leg_close_filled}
@@ -156,9 +156,7 @@ module _ (m : Meaning) (l : Ledger) (b : Tables) (law : Law m l b) (n : ℕ) whe
       subst (λ z. Law m l' (funds_to (fill_funds (lots * leg_reserve m b c limit z) 0 0 0 0 b.funds) (disengaged b k lots (orders_to (order_rest n lots o b.orders) b.order_series b) z))) (sym found)
       (still_keeps m l b law n lots o part (lots * leg_close_reserve m (contracts_of b) c limit (Some p)) (changed b.combinations k (combination_with (engaged l k - lots) p))
       (ap (λ z. lots * leg_close_reserve m (contracts_of b) c limit z) (sym g.stands)) (λ i j. (refl, refl))
-      (λ j. row_engaged b.combinations k j (engaged l k) (engaged l k - lots) (engaged l' j) p (under l.combinations j) found (λ e. ap (under l.combinations) (sym e) ∙ g.stands)
-      (λ e. omega (arith, less j, cond-true _ lots 0 (eq-eqb k j e), ap (engaged l) e))
-      (λ ne. law.beside.combinations j ∙ ap (λ z. combination_under z (under l.combinations j)) (omega (arith, less j, cond-false _ lots 0 (ne_eqb k j ne)))))
+      (λ j. let rest_is = less j in engaged_row law k p (engaged l k - lots) (engaged l' j) j g.stands (grind (arith, nat_tests)))
       (apart_changed b.combinations k (combination_with (engaged l k - lots) p) law.sound.combination_rows))
 
 pub fill_stays : (m : Meaning) (b : Tables) (n lots price : ℕ) → Stays m b (call.Fill n lots price)

@@ -1,10 +1,10 @@
 -- The fill of a leg close keeps the law.
-use Rattle.std.proofs.Common.{◌≡◌, ℕ, ◌+◌, ◌-◌, ◌*◌, ◌<◌, ◌≤◌, eqb, List, Some, sym, refl, ap, ◌∙◌, ⊎_elim, arith}
+use Rattle.std.proofs.Common.{◌≡◌, ℕ, ◌+◌, ◌-◌, ◌*◌, ◌≤◌, cond, eqb, List, Some, sym, refl, ap, ◌∙◌, ⊎_elim, arith}
+use Rattle.std.proofs.lemmas.Bool.Decides.{nat_tests}
 use Rattle.std.proofs.lemmas.List.{length-set}
-use Rattle.std.proofs.lemmas.Bool.{cond-true, cond-false, eq-eqb, ne_eqb}
+use Rattle.std.proofs.lemmas.Bool.{cond-true, eq-eqb}
 use Rattle.margin.specs.ByCode.{by_code}
 use Rattle.margin.specs.declared.contract.Contract.{Contract}
-use Rattle.register.specs.Rows.{lookup}
 use Rattle.ledger.specs.declared.order.Order.{Order}
 use Rattle.ledger.specs.declared.order.OrderKind.TheVariants.{LegClose}
 use Rattle.ledger.specs.declared.tables.Tables.{Tables}
@@ -12,20 +12,20 @@ use Rattle.margin.specs.Meaning.{Meaning}
 use Rattle.ledger.specs.ByCode.{unit_of}
 use Rattle.ledger.specs.Ledger.{Ledger, Entry, under, put, pairing_less, order_less, fewer}
 use Rattle.ledger.specs.Content.{Pairing}
-use Rattle.ledger.specs.Law.{Lots, contracts_of, position_of, position_row, engaged, engages, combination_under, reserve, reserves, margin_held, in_combinations, written_claim, bought_claim, claimed_written, claimed_bought, when}
+use Rattle.ledger.specs.Law.{Lots, contracts_of, position_of, position_row, engaged, reserve, reserves, margin_held, in_combinations, written_claim, bought_claim, claimed_written, claimed_bought, when}
 use Rattle.ledger.specs.Amounts.{leg_close_reserve, pair_margin, other_leg_margin}
 use Rattle.ledger.specs.Moves.{at, closing_written, combination_rest}
 use Rattle.ledger.specs.FillRules.{Flow, leg_flow, filled_funds}
 use Rattle.ledger.specs.Runs.{Law, SoundOrder}
-use Rattle.ledger.proofs.Entries.{weighed_part, weighed_same, numbers_put}
+use Rattle.ledger.proofs.Entries.{weighed_same, numbers_put}
 use Rattle.ledger.proofs.Grid.{legs_moved}
 use Rattle.ledger.proofs.Shares.{times_both, less_parts}
 use Rattle.ledger.proofs.Moved.{AllLots, lots_moved_twice}
 use Rattle.ledger.proofs.Leaving.{left, left_tables, Part, left_keeps, closes_written_left, closes_bought_left, engaged_left, reserves_left, legs_left}
 use Rattle.ledger.proofs.Covered.{leg_covered}
 use Rattle.ledger.proofs.Codes.{at_one, one_here, one_else}
-use Rattle.ledger.proofs.Pairings.{combination_with, row_of, pair_lots, pairs_less, written_claim_by, bought_claim_by, pair_margin_by, rows_less, sound_less, apart_pair_rest, pair_less_parts}
-use Rattle.ledger.proofs.Legs.{NamedStays, order_stays, less_stays}
+use Rattle.ledger.proofs.Pairings.{combination_with, pair_lots, written_claim_by, bought_claim_by, pair_margin_by}
+use Rattle.ledger.proofs.Legs.{NamedStays, order_stays, rest_sum, rest_numbers, rest_apart, rest_rows, rest_sound, rest_engaged, rest_named}
 use Rattle.ledger.proofs.Others.{OtherLeg}
 
 module _ (m : Meaning) (l : Ledger) (b : Tables) (law : Law m l b) (n k c lots price whole limit : ℕ) (p : Pairing) (stands : under l.combinations k ≡ Some p) where
@@ -68,25 +68,20 @@ module _ (m : Meaning) (l : Ledger) (b : Tables) (law : Law m l b) (n k c lots p
     enough = omega (arith, here_engaged, law.sound.engaged_most k p stands)
 
     -- another order of the combination, or the rest of this one, leaves lots of it
-    stays : (j : ℕ) (x : Order) (y : ℕ) → under l'.orders j ≡ Some x → x.kind ≡ LegClose k y → lots < p.lots
-    stays j x y s e =
-        let weight : engages k x x.kind ≡ x.lots = ap (engages k x) e ∙ cond-true _ _ _ (eq-eqb k k refl) in
-        let some : 1 ≤ x.lots = ⊎_elim (λ q. omega (arith, q.1, ap (λ (z : Order). z.lots) q.2)) (λ q. (law.sound.orders j x q.1).lots.0)
-        (less_parts l.orders l.next_order n lots j order x law.sound.order_numbers part.stands s) in
-        omega (arith, weight, some, weighed_part (λ z. engages k z z.kind) l'.orders j x s, here_engaged, law.sound.engaged_most k p stands)
-
     named_stays : (j : ℕ) (x : Order) → under l'.orders j ≡ Some x → NamedStays ps es x.kind
-    named_stays j x s i y e = less_stays ps l.next_combination k lots p i law.sound.combination_numbers stands (λ w. stays j x y s (e ∙ ap (λ z. LegClose z y) (sym w)))
+    named_stays j x s = rest_named law k lots p stands l'.orders j x s
+        (⊎_elim (λ q. omega (arith, q.1, ap (λ (z : Order). z.lots) q.2)) (λ q. (law.sound.orders j x q.1).lots.0) (less_parts l.orders l.next_order n lots j order x law.sound.order_numbers part.stands s))
+        (omega (arith, here_engaged, law.sound.engaged_most k p stands))
 
     -- sums over combinations and orders
     less_written : (x y : ℕ) → in_combinations l' x y + written_claim x y P ≡ in_combinations l x y
-    less_written x y = pairs_less (written_claim x y) (written_claim_by x y) ps k lots p stands enough
+    less_written x y = rest_sum law k lots p stands (written_claim x y) (written_claim_by x y) enough
 
     claims_written : (x y : ℕ) → claimed_written l' x y + written_claim x y P ≡ claimed_written l x y
     claims_written x y = omega (arith, less_written x y, closes_written_left m l b law n lots order part x y)
 
     claims_bought : (x y : ℕ) → claimed_bought l' x y + bought_claim x y P ≡ claimed_bought l x y
-    claims_bought x y = omega (arith, pairs_less (bought_claim x y) (bought_claim_by x y) ps k lots p stands enough, closes_bought_left m l b law n lots order part x y)
+    claims_bought x y = omega (arith, rest_sum law k lots p stands (bought_claim x y) (bought_claim_by x y) enough, closes_bought_left m l b law n lots order part x y)
 
     fit : SoundOrder cs ps order
     fit = law.sound.orders n order part.stands
@@ -143,7 +138,7 @@ module _ (m : Meaning) (l : Ledger) (b : Tables) (law : Law m l b) (n k c lots p
         let sums = legs_moved m.leg (λ x y. W x y - in_combinations l' x y) (λ x y. l.written x y - in_combinations l x y) cs 0 a leg.other leg.contract law.sound.codes leg.is_listed fit.account.0 fit.account.1 free_else in
         let free = times_both (W a leg.other - in_combinations l' a leg.other) 0 (l.written a leg.other - in_combinations l a leg.other) leg.freed_written (m.leg leg.contract)
         (omega (arith, W_other, less_written a leg.other, leg.written_other, lot_other.written_free)) in
-        omega (arith, law.beside.held, sums, free, leg.margin, pairs_less (λ z. z.lots * pair_margin m cs z) (pair_margin_by m cs) ps k lots p stands enough)
+        omega (arith, law.beside.held, sums, free, leg.margin, rest_sum law k lots p stands (λ z. z.lots * pair_margin m cs z) (pair_margin_by m cs) enough)
 
     -- reserves
     reserves_less : reserves m cs l' + lots * leg_close_reserve m cs c limit (Some p) ≡ b.funds.reserved
@@ -157,10 +152,8 @@ module _ (m : Meaning) (l : Ledger) (b : Tables) (law : Law m l b) (n k c lots p
           reserves_left m l b law n lots order part,
         )
 
-    rows_left : (j : ℕ) → lookup (combination_rest k lots lots (combination_with (engaged l k) p) b.combinations) j ≡ combination_under (engaged l' j) (under es j)
-    rows_left j = rows_less b.combinations ps l.next_combination k lots lots j (engaged l k) (engaged l' j) p law.sound.combination_rows (row_of law k p stands) law.sound.combination_numbers stands
-        (λ e. omega (arith, less_engaged j, cond-true (eqb k j) lots 0 (eq-eqb k j e), ap (engaged l) e))
-        (λ ne. law.beside.combinations j ∙ ap (λ z. combination_under z (under ps j)) (omega (arith, less_engaged j, cond-false (eqb k j) lots 0 (ne_eqb k j ne))))
+    engaged_now : (j : ℕ) → engaged l' j ≡ cond (eqb k j) (engaged l k - lots) (engaged l j)
+    engaged_now j = let less = less_engaged j in grind (arith, nat_tests)
 
     abbrev w : Flow
     w = leg_flow m b c limit lots price (Some (combination_with (engaged l k) p))
@@ -174,14 +167,11 @@ module _ (m : Meaning) (l : Ledger) (b : Tables) (law : Law m l b) (n k c lots p
           cash_most = omega (arith, law.sound.cash);
           rows = length-set (at a c (closing_written lots) b).positions (position_row b a leg.other) (leg.move (position_of (at a c (closing_written lots) b) a leg.other)) ∙ length-set b.positions (position_row b a c) (closing_written lots (position_of b a c)) ∙ law.sound.position_rows;
           lots_are = moved_lots;
-          combinations = rows_left;
-          apart = apart_pair_rest b.combinations k lots lots (engaged l k) p law.sound.combination_rows;
-          numbers = numbers_put ps l.next_combination k (pairing_less lots p) law.sound.combination_numbers;
-          sound = sound_less cs ps l.next_combination k lots p law.sound.combination_numbers stands law.sound.combinations;
-          engaged_most = λ j q s. ⊎_elim
-              (λ h. omega (arith, less_engaged j, cond-true (eqb k j) lots 0 (eq-eqb k j h.0), ap (engaged l) h.0, ap (λ (z : Pairing). z.lots) h.2, law.sound.engaged_most k p stands))
-              (λ h. omega (arith, less_engaged j, law.sound.engaged_most j q h.1))
-              (pair_less_parts ps l.next_combination k lots j p q law.sound.combination_numbers stands s);
+          combinations = λ j. rest_rows law k lots p stands lots j (engaged l' j) (engaged_now j);
+          apart = rest_apart law k lots p stands lots;
+          numbers = rest_numbers law k lots p stands;
+          sound = rest_sound law k lots p stands;
+          engaged_most = rest_engaged law k lots p stands lots (λ j. engaged l' j) (omega (arith, law.sound.engaged_most k p stands)) engaged_now;
           legs = λ j x s. (order_stays ps es x.account m cs x.kind x.limit (named_stays j x s) (legs_left m l b law n lots order part j x s)).0;
           held = held_left;
           reserved = reserves_less;

@@ -1,28 +1,26 @@
 -- Release keeps the law.
-use Rattle.std.proofs.Common.{◌≡◌, ℕ, ◌+◌, ◌-◌, ◌*◌, ◌<◌, ◌≤◌, List, Some, Option, sym, refl, ap, ◌∙◌, subst, ⊎_elim, arith}
+use Rattle.std.proofs.Common.{◌≡◌, ℕ, ◌+◌, ◌-◌, ◌*◌, ◌≤◌, List, Some, Option, sym, refl, ◌∙◌, subst, arith}
+use Rattle.std.proofs.lemmas.Bool.Decides.{nat_tests}
 use Rattle.std.proofs.lemmas.List.{length-set}
-use Rattle.std.proofs.lemmas.Bool.{ltb-false, cond-true, eq-eqb}
+use Rattle.std.proofs.lemmas.Bool.{ltb-false}
 use Rattle.register.specs.Rows.{lookup}
 use Rattle.margin.specs.declared.contract.Contract.{Contract}
 use Rattle.margin.specs.Strategies.{first_written}
 use Rattle.ledger.specs.declared.call.Call.TheVariants as call
-use Rattle.ledger.specs.declared.order.Order.{Order}
-use Rattle.ledger.specs.declared.order.OrderKind.TheVariants.{LegClose}
 use Rattle.ledger.specs.declared.order.Combination.{Combination}
 use Rattle.ledger.specs.declared.tables.Tables.{Tables}
 use Rattle.margin.specs.Meaning.{Meaning}
 use Rattle.ledger.specs.Ledger.{Ledger, Entry, under, put, pairing_less, combination_less}
 use Rattle.ledger.specs.Content.{Pairing}
-use Rattle.ledger.specs.Law.{Lots, contracts_of, position_of, written_claim, bought_claim, in_combinations, claimed_bought, claimed_written, engages, engaged}
+use Rattle.ledger.specs.Law.{Lots, contracts_of, position_of, written_claim, bought_claim, in_combinations, claimed_bought, claimed_written, engaged}
 use Rattle.ledger.specs.Moves.{at, unlock_first, unlocking_written, combination_rest}
 use Rattle.ledger.specs.CombinationRules.{released, release_tests}
 use Rattle.ledger.specs.Runs.{Law, Fitted, SoundCombination}
 use Rattle.ledger.specs.Amounts.{pair_per_lot, legs_per_lot, pair_margin}
 use Rattle.ledger.proofs.Tests.{Stays, standing_at, unmet, within, stands_as, unmet_at}
-use Rattle.ledger.proofs.Entries.{weighed_part, numbers_put}
 use Rattle.ledger.proofs.Moved.{AllLots, lots_moved_twice}
-use Rattle.ledger.proofs.Pairings.{combination_with, row_of, combination_at, pair_lots, pairs_less, written_claim_by, bought_claim_by, pair_margin_by, rows_less, sound_less, apart_pair_rest, pair_less_parts}
-use Rattle.ledger.proofs.Legs.{less_stays}
+use Rattle.ledger.proofs.Pairings.{combination_with, combination_at, pair_lots, written_claim_by, bought_claim_by, pair_margin_by}
+use Rattle.ledger.proofs.Legs.{rest_sum, rest_numbers, rest_apart, rest_rows, rest_sound, rest_engaged, rest_named}
 use Rattle.ledger.proofs.Claims.{TwoLegs, two_legs, held_between, first_unlocked}
 use Rattle.ledger.proofs.Regrouping.{regrouped, regrouped_keeps}
 
@@ -56,13 +54,13 @@ module _ (m : Meaning) (l : Ledger) (b : Tables) (law : Law m l b) (n lots : ℕ
   two = two_legs cs p lots fitted
 
   less_inside : (x y : ℕ) → in_combinations l' x y + written_claim x y P ≡ in_combinations l x y
-  less_inside x y = pairs_less (written_claim x y) (written_claim_by x y) ps n lots p stands (omega arith)
+  less_inside x y = rest_sum law n lots p stands (written_claim x y) (written_claim_by x y) (omega arith)
 
   less_written : (x y : ℕ) → claimed_written l' x y + written_claim x y P ≡ claimed_written l x y
   less_written x y = omega (arith, less_inside x y)
 
   less_bought : (x y : ℕ) → claimed_bought l' x y + bought_claim x y P ≡ claimed_bought l x y
-  less_bought x y = omega (arith, pairs_less (bought_claim x y) (bought_claim_by x y) ps n lots p stands (omega arith))
+  less_bought x y = omega (arith, rest_sum law n lots p stands (bought_claim x y) (bought_claim_by x y) (omega arith))
 
   lot : Lots l a p.first (position_of b a p.first)
   lot = law.beside.lots a p.first fitted.first sound.account.0 sound.account.1 fitted.first_listed
@@ -101,28 +99,20 @@ module _ (m : Meaning) (l : Ledger) (b : Tables) (law : Law m l b) (n lots : ℕ
         claimed_written = omega (arith, less_written x y, two.written_else x y nf ns);
       })
 
-  -- an order that names the combination leaves lots of it
-  rest_named : (j : ℕ) (x : Order) (y : ℕ) → under l.orders j ≡ Some x → x.kind ≡ LegClose n y → lots < p.lots
-  rest_named j x y s e =
-      let weight : engages n x x.kind ≡ x.lots = ap (engages n x) e ∙ cond-true _ _ _ (eq-eqb n n refl) in
-      omega (arith, weight, (law.sound.orders j x s).lots.0, weighed_part (λ z. engages n z z.kind) l.orders j x s)
-
   pub ungrouped_keeps : Law m l' (released m b n lots (combination_with (engaged l n) p))
   ungrouped_keeps = regrouped_keeps m l b law es l.next_combination unlocked.positions (combination_rest n lots 0 (combination_with (engaged l n) p) b.combinations) b.combination_series _ _ (record {
     rows = length-set _ _ _ ∙ length-set _ _ _ ∙ law.sound.position_rows;
     lots = unlocked_lots;
-    found = λ j. rows_less b.combinations ps l.next_combination n lots 0 j (engaged l n) (engaged l j) p law.sound.combination_rows (row_of law n p stands) law.sound.combination_numbers stands
-        (λ e. omega (arith, ap (engaged l) e)) (λ ne. law.beside.combinations j);
-    apart = apart_pair_rest b.combinations n lots 0 (engaged l n) p law.sound.combination_rows;
-    numbers = numbers_put ps l.next_combination n (pairing_less lots p) law.sound.combination_numbers;
+    found = λ j. rest_rows law n lots p stands 0 j (engaged l j) (grind (arith, nat_tests));
+    apart = rest_apart law n lots p stands 0;
+    numbers = rest_numbers law n lots p stands;
     next_is = law.beside.next_combination;
     last = law.sound.last_combination;
-    sound = sound_less cs ps l.next_combination n lots p law.sound.combination_numbers stands law.sound.combinations;
-    engaged_most = λ j q s. ⊎_elim (λ h. omega (arith, ap (engaged l) h.0, ap (λ (z : Pairing). z.lots) h.2)) (λ h. law.sound.engaged_most j q h.1)
-        (pair_less_parts ps l.next_combination n lots j p q law.sound.combination_numbers stands s);
-    stays = λ j x s i y e. less_stays ps l.next_combination n lots p i law.sound.combination_numbers stands (λ w. rest_named j x y s (e ∙ ap (λ z. LegClose z y) (sym w)));
+    sound = rest_sound law n lots p stands;
+    engaged_most = rest_engaged law n lots p stands 0 (engaged l) (omega arith) (λ j. grind (arith, nat_tests));
+    stays = λ j x s. rest_named law n lots p stands l.orders j x s (law.sound.orders j x s).lots.0 (omega arith);
     held = sym (held_between m cs l' l p lots law.sound.codes sound.account fitted (λ x y. refl) (λ x y. sym (less_inside x y)) (omega (arith, lot.written_free)) (omega (arith, lot₂.written_free))
-        (sym (pairs_less (λ z. z.lots * pair_margin m cs z) (pair_margin_by m cs) ps n lots p stands (omega arith))));
+        (sym (rest_sum law n lots p stands (λ z. z.lots * pair_margin m cs z) (pair_margin_by m cs) (omega arith))));
     enough = enough;
   })
 
