@@ -1,10 +1,11 @@
 -- The rows in use of a book are, up to order, the entries of its ledger; so books that are the same but for rows and numbers have equal balances.
-use Rattle.std.proofs.Common.{◌≡◌, ℕ, ◌+◌, true, false, cond, eqb, ◌⊎◌, List, [], ◌∷◌, map, Some, None, Option, sym, refl, ap, ◌∙◌, subst, ap₂, inl, inr, ⊎_elim, arith}
+use Rattle.std.proofs.Common.{◌≡◌, ℕ, ◌+◌, ◌⊎◌, List, [], ◌∷◌, map, Some, None, Option, sym, refl, ap, ◌∙◌, subst, ap₂, inl, inr, ⊎_elim, arith}
+use Rattle.std.specs.Option.{option_map}
 use Rattle.std.specs.List.Sorted.{IsPermutation}
-use Rattle.std.proofs.lemmas.List.Sorted.{IsPermutation-refl, IsPermutation-sym, IsPermutation-cons, IsPermutation-swap, IsPermutation-trans}
+use Rattle.std.proofs.lemmas.List.Sorted.{IsPermutation-refl, IsPermutation-sym, IsPermutation-cons, IsPermutation-middle, IsPermutation-trans}
 use Rattle.std.proofs.lemmas.Option.{none-some}
 use Rattle.std.proofs.lemmas.Bool.Decides.{nat_tests}
-use Rattle.std.proofs.lemmas.Bool.{cases_eq, cond-true, cond-false, eq-eqb, ne_eqb}
+use Rattle.std.proofs.lemmas.Bool.{both_ways, cases_eq, cond-true, cond-false, eq-eqb, ne_eqb}
 use Rattle.register.specs.declared.row.Row.{Row}
 use Rattle.register.specs.Rows.{lookup, freed, removed, Apart}
 use Rattle.register.proofs.After.{stands_is, found_number, found_parts, absent_parts, replaced_here, replaced_later, lookup_removed, apart_removed}
@@ -31,6 +32,9 @@ module _ {T : Type 0} where
   unused : (r : Row T) (rs : List (Row T)) → r.number ≡ 0 → in_use (r ∷ rs) ≡ in_use rs
   unused r rs e = cond-true _ _ _ (eq-eqb _ _ e)
 
+perm_by : {X : Type 0} (xs ys us vs : List X) → xs ≡ us → ys ≡ vs → IsPermutation us vs → IsPermutation xs ys
+perm_by xs ys us vs p q h = subst (λ zs. IsPermutation zs ys) (sym p) (subst (λ zs. IsPermutation us zs) (sym q) h)
+
 module _ {T X : Type 0} (seen : T → X) where
   abbrev shown : List (Row T) → List X
   shown rs = map seen (in_use rs)
@@ -41,21 +45,15 @@ module _ {T X : Type 0} (seen : T → X) where
   out (r ∷ rs) n x p =
       let nn : n ≡ 0 → ⊥ = found_number (r ∷ rs) n x p in
       ⊎_elim
-      (λ h. let gone : removed (r ∷ rs) n ≡ record { number = 0; entry = r.entry } ∷ rs = replaced_here freed r rs n h.0 in
-      let left : shown (r ∷ rs) ≡ seen r.entry ∷ shown rs = ap (map seen) (used r rs (λ z. nn (sym h.1 ∙ z))) in
-      let right : seen x ∷ shown (removed (r ∷ rs) n) ≡ seen r.entry ∷ shown rs = ap₂ (λ y ys. seen y ∷ ys) (sym h.2) (ap shown gone) in
-      subst (λ ys. IsPermutation (shown (r ∷ rs)) ys) (sym right) (subst (λ ys. IsPermutation ys (seen r.entry ∷ shown rs)) (sym left) (IsPermutation-refl (seen r.entry ∷ shown rs))))
-      (λ h. let rest : IsPermutation (shown rs) (seen x ∷ shown (removed rs n)) = out rs n x h.1 in
-      let gone : removed (r ∷ rs) n ≡ r ∷ removed rs n = replaced_later freed r rs n h.0 in
-      subst (λ ys. IsPermutation (shown (r ∷ rs)) (seen x ∷ shown ys)) (sym gone)
-      (⊎_elim
-      (λ z. subst (λ ys. IsPermutation (map seen ys) (seen x ∷ shown (r ∷ removed rs n))) (sym (unused r rs z))
-      (subst (λ ys. IsPermutation (shown rs) (seen x ∷ map seen ys)) (sym (unused r (removed rs n) z)) rest))
-      (λ nz. subst (λ ys. IsPermutation (map seen ys) (seen x ∷ shown (r ∷ removed rs n))) (sym (used r rs nz))
-      (subst (λ ys. IsPermutation (seen r.entry ∷ shown rs) (seen x ∷ map seen ys)) (sym (used r (removed rs n) nz))
+      (λ h. perm_by _ _ (seen r.entry ∷ shown rs) (seen r.entry ∷ shown rs) (ap (map seen) (used r rs (λ z. nn (sym h.1 ∙ z)))) (ap₂ (λ y ys. seen y ∷ ys) (sym h.2) (ap shown (replaced_here freed r rs n h.0))) (IsPermutation-refl (seen r.entry ∷ shown rs)))
+      (λ h. let rest = out rs n x h.1 in
+      let gone : shown (removed (r ∷ rs) n) ≡ shown (r ∷ removed rs n) = ap shown (replaced_later freed r rs n h.0) in
+      ⊎_elim
+      (λ z. perm_by _ _ (shown rs) (seen x ∷ shown (removed rs n)) (ap (map seen) (unused r rs z)) (ap (λ ys. seen x ∷ ys) (gone ∙ ap (map seen) (unused r (removed rs n) z))) rest)
+      (λ nz. perm_by _ _ (seen r.entry ∷ shown rs) (seen x ∷ seen r.entry ∷ shown (removed rs n)) (ap (map seen) (used r rs nz)) (ap (λ ys. seen x ∷ ys) (gone ∙ ap (map seen) (used r (removed rs n) nz)))
       (IsPermutation-trans (seen r.entry ∷ shown rs) (seen r.entry ∷ seen x ∷ shown (removed rs n)) (seen x ∷ seen r.entry ∷ shown (removed rs n)) (IsPermutation-cons (seen r.entry) (shown rs) (seen x ∷ shown (removed rs n)) rest)
-      (IsPermutation-swap (seen r.entry ∷ seen x ∷ shown (removed rs n)) (seen x ∷ seen r.entry ∷ shown (removed rs n)) 0 1 (omega arith) (omega arith) refl))))
-      (cases_eq r.number 0)))
+      (IsPermutation-middle (seen r.entry ∷ []) (seen x) (shown (removed rs n)))))
+      (cases_eq r.number 0))
       (found_parts r rs n x p)
 
   -- nothing found: nothing in use
@@ -64,47 +62,40 @@ module _ {T X : Type 0} (seen : T → X) where
   none_used (r ∷ rs) h =
       ⊎_elim
       (λ z. ap (map seen) (unused r rs z) ∙ none_used rs (λ n. (absent_parts r rs n (h n)).1))
-      (λ nz. let one : true ≡ false = sym (stands_is r r.number nz refl) ∙ (absent_parts r rs r.number (h r.number)).0 in
-      absurd cc)
+      (λ nz. absurd (both_ways _ (absent_parts r rs r.number (h r.number)).0 (stands_is r r.number nz refl)))
       (cases_eq r.number 0)
 
   -- rows that find, under each number, what stands there
   module _ {S : Type 0} (told : S → X) where
-    pub data Match : Option T → Option S → Type 0 where
-      both_none : Match None None
-      both_some : {x : T} {y : S} → seen x ≡ told y → Match (Some x) (Some y)
+    abbrev Match : Option T → Option S → Type 0
+    Match o q = option_map seen o ≡ option_map told q
 
     match_some : (o : Option T) (y : S) → Match o (Some y) → (x : T) × ((o ≡ Some x) × (seen x ≡ told y))
-    match_some None y h = elim h [ ]
-    match_some (Some x) y (both_some e) = (x, (refl, e))
+    match_some None y h = absurd cc
+    match_some (Some x) y h = (x, (refl, cc))
 
     match_none : (o : Option T) → Match o None → o ≡ None
-    match_none None both_none = refl
-    match_none (Some x) h = elim h [ ]
+    match_none None h = refl
+    match_none (Some x) h = absurd cc
 
     entries_shown : (rs : List (Row T)) (es : List (Entry S)) (next : ℕ) → Apart rs → Numbers es next → ((n : ℕ) → Match (lookup rs n) (under es n)) → IsPermutation (shown rs) (map (λ (e : Entry S). told e.content) es)
-    entries_shown rs [] next apart numbers h =
-        subst (λ ys. IsPermutation ys []) (sym (none_used rs (λ n. match_none (lookup rs n) (h n)))) (IsPermutation-refl [])
+    entries_shown rs [] next apart numbers h = perm_by _ _ [] [] (none_used rs (λ n. match_none (lookup rs n) (h n))) refl (IsPermutation-refl [])
     entries_shown rs (e ∷ es) next apart numbers h =
         let n : ℕ = e.number in
-        let first : under (e ∷ es) n ≡ Some e.content = cond-true (eqb n n) (Some e.content) (under es n) (eq-eqb _ _ refl) in
-        let q = match_some (lookup rs n) e.content (subst (λ o. Match (lookup rs n) o) first (h n)) in
+        let standing : List X = map (λ (e : Entry S). told e.content) es in
+        let first : under (e ∷ es) n ≡ Some e.content = grind (arith, nat_tests) in
+        let q = match_some (lookup rs n) e.content (h n ∙ ap (option_map told) first) in
         let x : T = q.0 in
-        let found : lookup rs n ≡ Some x = q.1.0 in
-        let gone : (k : ℕ) → lookup (removed rs n) k ≡ cond (eqb n k) None (lookup rs k) = λ k. lookup_removed rs n k apart in
-        let rest : IsPermutation (shown (removed rs n)) (map (λ (e : Entry S). told e.content) es) = entries_shown (removed rs n) es n (apart_removed rs n apart) numbers.2
-        (λ k. ⊎_elim
-        (λ v. subst (λ o. Match o (under es k)) (sym (gone k ∙ cond-true _ _ _ (eq-eqb _ _ v))) (subst (λ o. Match None o) (sym (under_above es n k numbers.2 (omega (arith, v)))) both_none))
-        (λ nv. subst (λ o. Match o (under es k)) (sym (gone k ∙ cond-false _ _ _ (ne_eqb _ _ nv))) (subst (λ o. Match (lookup rs k) o) (cond-false _ _ _ (ne_eqb _ _ nv)) (h k)))
-        (cases_eq n k)) in
-        subst (λ y. IsPermutation (shown rs) (y ∷ map (λ (e : Entry S). told e.content) es)) q.1.1
-        (IsPermutation-trans (shown rs) (seen x ∷ shown (removed rs n)) (seen x ∷ map (λ (e : Entry S). told e.content) es) (out rs n x found) (IsPermutation-cons (seen x) (shown (removed rs n)) (map (λ (e : Entry S). told e.content) es) rest))
+        let rest : IsPermutation (shown (removed rs n)) standing = entries_shown (removed rs n) es n (apart_removed rs n apart) numbers.2
+        (λ k. let gone = lookup_removed rs n k apart in let same = h k in let above = under_above es n k numbers.2 in grind (arith, nat_tests)) in
+        IsPermutation-trans (shown rs) (seen x ∷ shown (removed rs n)) (told e.content ∷ standing) (out rs n x q.1.0)
+        (perm_by _ _ (seen x ∷ shown (removed rs n)) (seen x ∷ standing) refl (ap (λ y. y ∷ standing) (sym q.1.1)) (IsPermutation-cons (seen x) (shown (removed rs n)) standing rest))
 
 -- a book and its ledger
 module _ (m : Meaning) (l : Ledger) (b : Tables) (law : Law m l b) where
   same_row : (eng : ℕ) (o : Option Pairing) → Match content (λ p. p) (combination_under eng o) o
-  same_row eng (Some p) = both_some refl
-  same_row eng None = both_none
+  same_row eng (Some p) = refl
+  same_row eng None = refl
 
   same_content : (eng : ℕ) (o : Option Pairing) → content_of (combination_under eng o) ≡ o
   same_content eng (Some p) = refl
@@ -128,8 +119,8 @@ module _ (m : Meaning) (l : Ledger) (b : Tables) (law : Law m l b) where
   told_order o = order_content (combination_of l.combinations o.kind) o
 
   same_order : (o : Option Order) → Match seen_order told_order o o
-  same_order (Some o) = both_some (ap (λ p. order_content p o) (same_name o.kind))
-  same_order None = both_none
+  same_order (Some o) = ap (λ p. Some (order_content p o)) (same_name o.kind)
+  same_order None = refl
 
   pub orders_shown : IsPermutation (book_orders b) (orders_of l)
   orders_shown = entries_shown seen_order told_order b.orders l.orders l.next_order law.sound.order_rows law.sound.order_numbers

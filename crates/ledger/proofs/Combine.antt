@@ -1,5 +1,5 @@
 -- Combine keeps the law.
-use Rattle.std.proofs.Common.{◌≡◌, ℕ, ◌+◌, ◌-◌, ◌*◌, ◌^◌, ◌<◌, ◌≤◌, Bool, true, cond, List, ◌∷◌, Some, None, Option, sym, refl, ap, ◌∙◌, subst, ⊎_elim, arith}
+use Rattle.std.proofs.Common.{◌≡◌, ℕ, ◌+◌, ◌-◌, ◌*◌, ◌^◌, ◌<◌, ◌≤◌, true, cond, List, ◌∷◌, Some, None, Option, sym, refl, ap, ◌∙◌, subst, ⊎_elim, arith}
 use Rattle.register.specs.Numbers.{next_of, moved_on}
 use Rattle.std.proofs.lemmas.List.{length-set}
 use Rattle.std.proofs.lemmas.Bool.Decides.{nat_tests}
@@ -38,10 +38,6 @@ fit_parts : (m : Meaning) (b : Tables) (s : Strategy) (x y : Option Contract) �
 fit_parts m b s (Some c) (Some d) h = (c, d, refl, refl, h)
 fit_parts m b s (Some c) None h = absurd cc
 fit_parts m b s None y h = absurd cc
-
--- free lots of the first leg leave room on its side
-first_room : (t : Bool) (n w v : ℕ) → n ≤ cond t w v → (when t n ≤ w) × (cond t 0 n ≤ v)
-first_room t n w v h = grind arith
 
 -- a number under which no combination stands is named by no order
 engages_none : (ps : List (Entry Pairing)) (next : ℕ) (a : ℕ) (o : Order) (kind : OrderKind) → ((j : ℕ) (q : Pairing) → under ps j ≡ Some q → j < next) → LegStands ps a kind → engages next o kind ≡ 0
@@ -91,16 +87,12 @@ module _ (m : Meaning) (l : Ledger) (b : Tables) (law : Law m l b) (p : Pairing)
   lot₂ : Lots l a p.second (position_of b a p.second)
   lot₂ = law.beside.lots a p.second fitted.second account.0 account.1 fitted.second_listed
 
-  -- both legs leave room
-  written_free : claimed_written l' a p.first ≤ l.written a p.first
-  written_free =
-      let room = first_room (first_written p.strategy) p.lots (free_written (position_of b a p.first)) (free_bought (position_of b a p.first)) free_one in
-      omega (arith, room.0, lot.written, lot.locked_written, lot.written_free, more_written a p.first, two.written_first)
+  -- free lots of the first leg leave room on its side
+  room : (when (first_written p.strategy) p.lots ≤ free_written (position_of b a p.first)) × (cond (first_written p.strategy) 0 p.lots ≤ free_bought (position_of b a p.first))
+  room = grind arith
 
-  bought_free : claimed_bought l' a p.first ≤ l.bought a p.first
-  bought_free =
-      let room = first_room (first_written p.strategy) p.lots (free_written (position_of b a p.first)) (free_bought (position_of b a p.first)) free_one in
-      omega (arith, room.1, lot.bought, lot.locked_bought, lot.bought_free, more_bought a p.first, two.bought_first)
+  written_free : claimed_written l' a p.first ≤ l.written a p.first
+  written_free = omega (arith, room.0, lot.written, lot.locked_written, lot.written_free, more_written a p.first, two.written_first)
 
   written_free₂ : claimed_written l' a p.second ≤ l.written a p.second
   written_free₂ = omega (arith, free_two, lot₂.written, lot₂.locked_written, lot₂.written_free, more_written a p.second, two.written_second)
@@ -118,7 +110,7 @@ module _ (m : Meaning) (l : Ledger) (b : Tables) (law : Law m l b) (p : Pairing)
         written = q.written ∙ lot.written;
         locked_bought = q.locked_bought ∙ omega (arith, lot.locked_bought, more_bought a p.first, two.bought_first);
         locked_written = q.locked_written ∙ omega (arith, lot.locked_written, more_written a p.first, two.written_first);
-        bought_free = bought_free;
+        bought_free = omega (arith, room.1, lot.bought, lot.locked_bought, lot.bought_free, more_bought a p.first, two.bought_first);
         written_free = written_free;
       })
       (record {
