@@ -9,7 +9,7 @@ use Rattle.ledger.specs.declared.call.Call.TheVariants as call
 use Rattle.ledger.specs.declared.order.Order.{Order}
 use Rattle.ledger.specs.declared.order.Combination.{Combination}
 use Rattle.ledger.specs.declared.order.OrderKind.{OrderKind}
-use Rattle.ledger.specs.declared.order.OrderKind.TheVariants.{SellOpen, BuyOpen, BuyClose, SellClose, LegClose}
+use Rattle.ledger.specs.declared.order.OrderKind.TheVariants.{LegClose}
 use Rattle.ledger.specs.declared.refusal.Refusal.{Refusal}
 use Rattle.ledger.specs.declared.tables.Tables.{Tables}
 use Rattle.ledger.specs.Law.{contracts_of}
@@ -21,16 +21,7 @@ use Rattle.ledger.specs.Tests.{Answer, Standing, answers}
 
 pub refused : (m : Meaning) (b : Tables) (c : Call) (e : Refusal) (after : Tables) → ByTheRules m b c (Err e) after → after ≡ b
 refused m b (call.Deposit amount) e after h = h.1
-refused m b (call.Withdraw amount) e after h = h.1
-refused m b (call.SellOpen account contract lots limit) e after h = h.1
-refused m b (call.BuyOpen account contract lots limit) e after h = h.1
-refused m b (call.BuyClose account contract lots limit) e after h = h.1
-refused m b (call.SellClose account contract lots limit) e after h = h.1
-refused m b (call.LegClose combination leg lots limit) e after h = h.1
-refused m b (call.Fill order lots price) e after h = h.1
-refused m b (call.Cancel order) e after h = h.1
-refused m b (call.Combine account strategy first second lots) e after h = h.1
-refused m b (call.Release combination lots) e after h = h.1
+refused m b c e after h = h.1
 
 -- from what stands
 standing_any : {T : Type 0} (o : Option T) (P : T → Type 0) (Q : Type 0) → ((x : T) → P x → Q) → Standing o P → Q
@@ -43,22 +34,16 @@ module _ (m : Meaning) (b : Tables) where
   leg_traded_stay o n c lots price to None e = e
 
   traded_stay : (kind : OrderKind) (o : Order) (lots price : ℕ) (to : Tables) → contracts_of to ≡ contracts_of b → contracts_of (traded m b o kind lots price to) ≡ contracts_of b
-  traded_stay (SellOpen c) o lots price to e = e
-  traded_stay (BuyOpen c) o lots price to e = e
-  traded_stay (BuyClose c) o lots price to e = e
-  traded_stay (SellClose c) o lots price to e = e
   traded_stay (LegClose n c) o lots price to e = leg_traded_stay o n c lots price to (lookup b.combinations n) e
+  traded_stay kind o lots price to e = e
 
   disengaged_stay : (n lots : ℕ) (to : Tables) (k : Option Combination) → contracts_of to ≡ contracts_of b → contracts_of (disengaged b n lots to k) ≡ contracts_of b
   disengaged_stay n lots to (Some k) e = e
   disengaged_stay n lots to None e = e
 
   freed_stay : (kind : OrderKind) (o : Order) (to : Tables) → contracts_of to ≡ contracts_of b → contracts_of (freed b kind o to) ≡ contracts_of b
-  freed_stay (SellOpen c) o to e = e
-  freed_stay (BuyOpen c) o to e = e
-  freed_stay (BuyClose c) o to e = e
-  freed_stay (SellClose c) o to e = e
   freed_stay (LegClose n c) o to e = disengaged_stay n o.lots to (lookup b.combinations n) e
+  freed_stay kind o to e = e
 
 abbrev Told : Tables → ℕ × ℕ → Tables → Type 0
 Told b x after = (number : ℕ) × (to : Tables) × answers number to (Ok x) after × (contracts_of to ≡ contracts_of b)
@@ -66,16 +51,13 @@ Told b x after = (number : ℕ) × (to : Tables) × answers number to (Ok x) aft
 told : (m : Meaning) (b : Tables) (c : Call) (x : ℕ × ℕ) (after : Tables) → ByTheRules m b c (Ok x) after → Told b x after
 told m b (call.Deposit amount) x after h = (_, _, h.1, refl)
 told m b (call.Withdraw amount) x after h = (_, _, h.1, refl)
-told m b (call.SellOpen account contract lots limit) x after h = (_, _, h.1.1.1, refl)
-told m b (call.BuyOpen account contract lots limit) x after h = (_, _, h.1.1.1, refl)
-told m b (call.BuyClose account contract lots limit) x after h = (_, _, h.1.1.1, refl)
-told m b (call.SellClose account contract lots limit) x after h = (_, _, h.1.1.1, refl)
 told m b (call.LegClose combination leg lots limit) x after h = standing_any (lookup b.combinations combination) _ (Told b x after) (λ k s. (_, _, s.1.1, refl)) h.1
 told m b (call.Fill order lots price) x after h = standing_any (lookup b.orders order) _ (Told b x after) (λ o s. (_, _, s, traded_stay m b o.kind o lots price _ refl)) h.1
 told m b (call.Cancel order) x after h = standing_any (lookup b.orders order) _ (Told b x after) (λ o s. (_, _, s, freed_stay m b o.kind o _ refl)) h.1
 told m b (call.Combine account strategy first second lots) x after h =
     standing_any (strategy_of strategy) (λ k. CombinedAs m b k account first second lots (Ok x) after) (Told b x after) (λ k s. (_, _, s.1.1, refl)) h.1
 told m b (call.Release combination lots) x after h = standing_any (lookup b.combinations combination) _ (Told b x after) (λ k s. (_, _, s, refl)) h.1
+told m b c x after h = (_, _, h.1.1.1, refl)
 
 pub same_contracts : (m : Meaning) (b : Tables) (c : Call) (x : ℕ × ℕ) (after : Tables) → ByTheRules m b c (Ok x) after → contracts_of after ≡ contracts_of b
 same_contracts m b c x after h = let t = told m b c x after h in ap contracts_of t.2.0 ∙ t.3

@@ -13,7 +13,7 @@ use Rattle.margin.specs.ByCode.{by_code}
 use Rattle.margin.specs.declared.contract.Contract.{Contract}
 use Rattle.ledger.specs.declared.order.Order.{Order}
 use Rattle.ledger.specs.declared.order.OrderKind.{OrderKind}
-use Rattle.ledger.specs.declared.order.OrderKind.TheVariants.{SellOpen, BuyOpen, BuyClose, SellClose, LegClose}
+use Rattle.ledger.specs.declared.order.OrderKind.TheVariants.{LegClose}
 use Rattle.ledger.specs.declared.tables.Tables.{Tables}
 use Rattle.margin.specs.Meaning.{Meaning}
 use Rattle.ledger.specs.Ledger.{Ledger, Entry, under}
@@ -106,11 +106,8 @@ module _ (m : Meaning) (l : Ledger) (b : Tables) (law : Law m l b) where
       (λ n. subst (λ o. Match content (λ p. p) o (under l.combinations n)) (sym (law.beside.combinations n)) (same_row (engaged l n) (under l.combinations n)))
 
   same_name : (kind : OrderKind) → combination_named b.combinations kind ≡ combination_of l.combinations kind
-  same_name (SellOpen c) = refl
-  same_name (BuyOpen c) = refl
-  same_name (BuyClose c) = refl
-  same_name (SellClose c) = refl
   same_name (LegClose n c) = ap content_of (law.beside.combinations n) ∙ same_content (engaged l n) (under l.combinations n)
+  same_name kind = refl
 
   abbrev seen_order : Order → OrderContent
   seen_order o = order_content (combination_named b.combinations o.kind) o

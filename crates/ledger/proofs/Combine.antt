@@ -14,7 +14,7 @@ use Rattle.margin.specs.Fits.{fits}
 use Rattle.ledger.specs.declared.call.Call.TheVariants as call
 use Rattle.ledger.specs.declared.order.Order.{Order}
 use Rattle.ledger.specs.declared.order.OrderKind.{OrderKind}
-use Rattle.ledger.specs.declared.order.OrderKind.TheVariants.{SellOpen, BuyOpen, BuyClose, SellClose, LegClose}
+use Rattle.ledger.specs.declared.order.OrderKind.TheVariants.{LegClose}
 use Rattle.ledger.specs.declared.order.Combination.{Combination}
 use Rattle.ledger.specs.declared.tables.Tables.{Tables}
 use Rattle.margin.specs.Meaning.{Meaning}
@@ -41,14 +41,11 @@ fit_parts m b s None y h = absurd cc
 
 -- a number under which no combination stands is named by no order
 engages_none : (ps : List (Entry Pairing)) (next : ℕ) (a : ℕ) (o : Order) (kind : OrderKind) → ((j : ℕ) (q : Pairing) → under ps j ≡ Some q → j < next) → LegStands ps a kind → engages next o kind ≡ 0
-engages_none ps next a o (SellOpen c) below g = refl
-engages_none ps next a o (BuyOpen c) below g = refl
-engages_none ps next a o (BuyClose c) below g = refl
-engages_none ps next a o (SellClose c) below g = refl
 engages_none ps next a o (LegClose j c) below g =
     let g' : LegOf ps a j c = g in
     let lt : j < next = below j g'.combination g'.stands in
     grind (arith, nat_tests)
+engages_none ps next a o kind below g = refl
 
 module _ (m : Meaning) (l : Ledger) (b : Tables) (law : Law m l b) (p : Pairing) (account : (1 ≤ p.account) × (p.account ≤ 8)) (some : 1 ≤ p.lots) (fitted : Fitted (contracts_of b) p)
     (free_one : p.lots ≤ free_first p.strategy (position_of b p.account p.first)) (free_two : p.lots ≤ free_written (position_of b p.account p.second))

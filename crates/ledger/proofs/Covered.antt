@@ -4,14 +4,14 @@ use Rattle.std.proofs.lemmas.Bool.{le-ltb, ltb-false}
 use Rattle.register.specs.Rows.{lookup}
 use Rattle.ledger.specs.declared.order.Combination.{Combination}
 use Rattle.ledger.specs.declared.order.OrderKind.{OrderKind}
-use Rattle.ledger.specs.declared.order.OrderKind.TheVariants.{SellOpen, BuyOpen, BuyClose, SellClose, LegClose}
+use Rattle.ledger.specs.declared.order.OrderKind.TheVariants.{SellOpen, SellClose, LegClose}
 use Rattle.ledger.specs.declared.tables.Tables.{Tables}
 use Rattle.margin.specs.ByCode.{by_code}
 use Rattle.margin.specs.Meaning.{Meaning}
 use Rattle.ledger.specs.ByCode.{unit_of}
 use Rattle.ledger.specs.Law.{contracts_of}
 use Rattle.ledger.specs.FillRules.{Flow, flow, leg_flow, other_margin}
-use Rattle.ledger.specs.Content.{sells}
+use Rattle.ledger.specs.Content.{contract_of, sells}
 use Rattle.ledger.specs.Keeps.{FillNeverShort}
 use Rattle.ledger.specs.Amounts.{pair_per_lot}
 
@@ -38,10 +38,9 @@ module _ (m : Meaning) (b : Tables) (limit lots price : ℕ) where
 
   pub flow_covered : (kind : OrderKind) → cond (sells kind) (ltb price limit) (ltb limit price) ≡ false → Covers (flow m b kind limit lots price)
   flow_covered (SellOpen c) h = omega arith
-  flow_covered (BuyOpen c) h = omega (arith, times_within lots price limit (unit_of (by_code (contracts_of b) c)) (ltb-false limit price h))
-  flow_covered (BuyClose c) h = omega (arith, times_within lots price limit (unit_of (by_code (contracts_of b) c)) (ltb-false limit price h))
   flow_covered (SellClose c) h = omega arith
   flow_covered (LegClose n c) h = leg_covered c (lookup b.combinations n) (ltb-false limit price h)
+  flow_covered kind h = omega (arith, times_within lots price limit (unit_of (by_code (contracts_of b) (contract_of kind))) (ltb-false limit price h))
 
 pub fill_never_short : FillNeverShort
 fill_never_short m b o lots price h =

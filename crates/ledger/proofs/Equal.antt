@@ -7,7 +7,7 @@ use Rattle.margin.specs.declared.contract.Contract.{Contract}
 use Rattle.margin.specs.Strategies.{first_written}
 use Rattle.ledger.specs.declared.order.OrderKind.{OrderKind}
 use Rattle.ledger.specs.declared.tables.Tables.{Tables}
-use Rattle.ledger.specs.declared.order.OrderKind.TheVariants.{SellOpen, BuyOpen, BuyClose, SellClose, LegClose}
+use Rattle.ledger.specs.declared.order.OrderKind.TheVariants.{SellOpen, LegClose}
 use Rattle.margin.specs.Meaning.{Meaning}
 use Rattle.ledger.specs.ByCode.{SameMeaning, leg_margin_of, unit_of, pair_margin_of}
 use Rattle.ledger.specs.Ledger.{Ledger, Entry, under, cash_total}
@@ -23,11 +23,8 @@ sum_mapped f g h [] e = refl
 sum_mapped f g h (x ∷ xs) e = omega (arith, e x, sum_mapped f g h xs e, sum_by-cons h x xs, sum_by-cons g (f x) (map f xs))
 
 by_name : (m : Meaning) (cs : List Contract) (l : Ledger) (kind : OrderKind) (limit : ℕ) → reserve m cs l.combinations kind limit ≡ reserve_with m cs (unnumbered kind) limit (combination_of l.combinations kind)
-by_name m cs l (SellOpen c) limit = refl
-by_name m cs l (BuyOpen c) limit = refl
-by_name m cs l (BuyClose c) limit = refl
-by_name m cs l (SellClose c) limit = refl
 by_name m cs l (LegClose n c) limit = refl
+by_name m cs l kind limit = refl
 
 -- one meaning for another
 module _ (m n : Meaning) (same : SameMeaning m n) (cs : List Contract) where
@@ -46,10 +43,8 @@ module _ (m n : Meaning) (same : SameMeaning m n) (cs : List Contract) where
 
   same_reserve : (ps : List (Entry Pairing)) (kind : OrderKind) (limit : ℕ) → ((j : ℕ) (p : Pairing) → under ps j ≡ Some p → Fitted cs p) → reserve m cs ps kind limit ≡ reserve n cs ps kind limit
   same_reserve ps (SellOpen c) limit fitted = same_leg (by_code cs c)
-  same_reserve ps (BuyOpen c) limit fitted = refl
-  same_reserve ps (BuyClose c) limit fitted = refl
-  same_reserve ps (SellClose c) limit fitted = refl
   same_reserve ps (LegClose j c) limit fitted = same_close c limit (under ps j) (fitted j)
+  same_reserve ps kind limit fitted = refl
 
 -- one standing for another
 module _ (m : Meaning) (cs : List Contract) (l k : Ledger) (same : SameStanding l k) where

@@ -3,7 +3,7 @@ use Rattle.std.proofs.Common.{◌≡◌, ℕ, ◌≤◌, cond, eqb, Some, refl, 
 use Rattle.std.proofs.lemmas.Bool.{cond-true, eq-eqb}
 use Rattle.ledger.specs.declared.order.Order.{Order}
 use Rattle.ledger.specs.declared.order.OrderKind.{OrderKind}
-use Rattle.ledger.specs.declared.order.OrderKind.TheVariants.{SellOpen, BuyOpen, BuyClose, SellClose, LegClose}
+use Rattle.ledger.specs.declared.order.OrderKind.TheVariants.{BuyClose, SellClose, LegClose}
 use Rattle.ledger.specs.declared.tables.Tables.{Tables}
 use Rattle.margin.specs.Meaning.{Meaning}
 use Rattle.ledger.specs.Ledger.{Ledger, under}
@@ -32,8 +32,6 @@ module _ (m : Meaning) (l : Ledger) (b : Tables) (law : Law m l b) where
         (omega (arith, lot.written_free, weighed_part (λ z. closes_written a c z z.kind) l.orders n o stands), omega (arith, lot.bought_free, weighed_part (λ z. closes_bought a c z z.kind) l.orders n o stands))
 
     pub fillable : (kind : OrderKind) (a whole limit : ℕ) → under l.orders n ≡ Some (made a kind whole limit) → lots ≤ whole → Fillable l a lots kind
-    fillable (SellOpen c) a whole limit stands within = tt
-    fillable (BuyOpen c) a whole limit stands within = tt
     fillable (BuyClose c) a whole limit stands within = omega (arith, (closes_owned (made a (BuyClose c) whole limit) stands).0, one_here a c whole 0)
     fillable (SellClose c) a whole limit stands within = omega (arith, (closes_owned (made a (SellClose c) whole limit) stands).1, one_here a c whole 0)
     fillable (LegClose k c) a whole limit stands within =
@@ -53,3 +51,4 @@ module _ (m : Meaning) (l : Ledger) (b : Tables) (law : Law m l b) where
         omega (arith, few, lot.written_free, two.written_first, cond-true _ p.lots 0 e.0, weighed_part (written_claim p.account p.first) l.combinations k p g.stands)))
         (leg_parts p c g.leg) in
         (subst (λ z. lots ≤ l.written z c) g.account owned, standing_at (λ (z : Pairing). lots ≤ z.lots) g.stands few)
+    fillable kind a whole limit stands within = tt

@@ -126,8 +126,6 @@ module _ (m : Meaning) (l : Ledger) (b : Tables) (law : Law m l b) (n : ℕ) whe
 
   cancelled_as : (kind : OrderKind) (a lots limit : ℕ) → Part l n lots (made a kind lots limit) →
       Law m (left l n lots (made a kind lots limit) l.came_in l.went_out l.bought l.written l.combinations) (cancelled_then (made a kind lots limit) (order_rest n lots (made a kind lots limit) b.orders))
-  cancelled_as (SellOpen c) a lots limit part = open_cancelled (SellOpen c) a lots limit part (λ k. refl) (λ i j. (refl, refl))
-  cancelled_as (BuyOpen c) a lots limit part = open_cancelled (BuyOpen c) a lots limit part (λ k. refl) (λ i j. (refl, refl))
   cancelled_as (BuyClose c) a lots limit part =
       moving_keeps m l b law n lots (made a (BuyClose c) lots limit) part (returned (lots * (limit * unit_of (by_code (contracts_of b) c)))) _ _ l.bought l.written (unlocking_written lots) 0 0 0 0 (record {
         covered = omega arith;
@@ -158,6 +156,7 @@ module _ (m : Meaning) (l : Ledger) (b : Tables) (law : Law m l b) (n : ℕ) whe
       (ap (λ z. lots * leg_close_reserve m (contracts_of b) c limit z) (sym g.stands)) (λ i j. (refl, refl))
       (λ j. let rest_is = less j in engaged_row law k p (engaged l k - lots) (engaged l' j) j g.stands (grind (arith, nat_tests)))
       (apart_changed b.combinations k (combination_with (engaged l k - lots) p) law.sound.combination_rows))
+  cancelled_as kind a lots limit part = open_cancelled kind a lots limit part (λ k. refl) (λ i j. (refl, refl))
 
 pub fill_stays : (m : Meaning) (b : Tables) (n lots price : ℕ) → Stays m b (call.Fill n lots price)
 fill_stays m b n lots price x after h l law =

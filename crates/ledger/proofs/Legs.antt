@@ -5,7 +5,7 @@ use Rattle.std.proofs.lemmas.Bool.Decides.{nat_tests}
 use Rattle.std.proofs.lemmas.Bool.{cases_eq, cond-true, eq-eqb}
 use Rattle.margin.specs.declared.contract.Contract.{Contract}
 use Rattle.ledger.specs.declared.order.OrderKind.{OrderKind}
-use Rattle.ledger.specs.declared.order.OrderKind.TheVariants.{SellOpen, BuyOpen, BuyClose, SellClose, LegClose}
+use Rattle.ledger.specs.declared.order.OrderKind.TheVariants.{LegClose}
 use Rattle.register.specs.Rows.{lookup, Apart}
 use Rattle.ledger.specs.declared.order.Order.{Order}
 use Rattle.ledger.specs.declared.order.Combination.{Combination}
@@ -31,14 +31,11 @@ NamedStays ps es kind = (j y : ℕ) → kind ≡ LegClose j y → Stays ps es j
 
 module _ (ps es : List (Entry Pairing)) (a : ℕ) where
   pub order_stays : (m : Meaning) (cs : List Contract) (kind : OrderKind) (limit : ℕ) → NamedStays ps es kind → LegStands ps a kind → LegStands es a kind × (reserve m cs es kind limit ≡ reserve m cs ps kind limit)
-  order_stays m cs (SellOpen x) limit stays g = (g, refl)
-  order_stays m cs (BuyOpen x) limit stays g = (g, refl)
-  order_stays m cs (BuyClose x) limit stays g = (g, refl)
-  order_stays m cs (SellClose x) limit stays g = (g, refl)
   order_stays m cs (LegClose j y) limit stays g =
       let g' : LegOf ps a j y = g in
       let s = stays j y refl g'.combination g'.stands in
       (record { combination = pair_lots s.0 g'.combination; stands = s.1; account = g'.account; leg = g'.leg }, ap (leg_close_reserve m cs y limit) s.1 ∙ ap (leg_close_reserve m cs y limit) (sym g'.stands))
+  order_stays m cs kind limit stays g = (g, refl)
 
 -- a new combination leaves those that stand
 pub added_stays : (ps : List (Entry Pairing)) (next : ℕ) (p : Pairing) (j : ℕ) → Numbers ps next → Stays ps (record { number = next; content = p } ∷ ps) j

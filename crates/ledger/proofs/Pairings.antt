@@ -7,7 +7,7 @@ use Rattle.margin.specs.declared.contract.Contract.{Contract}
 use Rattle.margin.specs.declared.contract.Right.{Right}
 use Rattle.margin.specs.declared.contract.Right.TheVariants.{Call, Put}
 use Rattle.margin.specs.declared.strategy.Strategy.{Strategy}
-use Rattle.margin.specs.declared.strategy.Strategy.TheVariants.{BullCallSpread, BearCallSpread, BullPutSpread, BearPutSpread, ShortStraddle, ShortStrangle}
+use Rattle.margin.specs.declared.strategy.Strategy.TheVariants.{ShortStraddle}
 use Rattle.margin.specs.Fits.{fits, rights_fit, strikes_fit}
 use Rattle.margin.specs.Strategies.{first_written}
 use Rattle.register.proofs.After.{lookup_changed}
@@ -54,13 +54,9 @@ pair_margin_by m cs p k h = split_mul p.lots k (pair_margin m cs p) h
 
 -- no contract fits itself
 self_fit : (s : Strategy) (r : Right) (k : ℕ) → (rights_fit s r r && strikes_fit s k k) ≡ true → ⊥
-self_fit BullCallSpread r k p = both_ways _ (le-ltb k k (omega arith)) (and_parts (rights_fit BullCallSpread r r) (ltb k k) p).1
-self_fit BearCallSpread r k p = both_ways _ (le-ltb k k (omega arith)) (and_parts (rights_fit BearCallSpread r r) (ltb k k) p).1
-self_fit BullPutSpread r k p = both_ways _ (le-ltb k k (omega arith)) (and_parts (rights_fit BullPutSpread r r) (ltb k k) p).1
-self_fit BearPutSpread r k p = both_ways _ (le-ltb k k (omega arith)) (and_parts (rights_fit BearPutSpread r r) (ltb k k) p).1
 self_fit ShortStraddle Call k p = cc
 self_fit ShortStraddle Put k p = cc
-self_fit ShortStrangle r k p = both_ways _ (le-ltb k k (omega arith)) (and_parts (rights_fit ShortStrangle r r) (ltb k k) p).1
+self_fit s r k p = both_ways _ (le-ltb k k (omega arith)) (and_parts (rights_fit s r r) (ltb k k) p).1
 
 pub legs_apart : (cs : List Contract) (p : Pairing) → Fitted cs p → p.first ≡ p.second → ⊥
 legs_apart cs p f e =

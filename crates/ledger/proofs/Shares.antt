@@ -1,11 +1,12 @@
 -- Some lots of an order gone: what stands, and what the sums that go by lots come to.
 use Rattle.std.proofs.Common.{◌≡◌, ℕ, ◌+◌, ◌-◌, ◌*◌, ◌<◌, ◌≤◌, leb, ◌⊎◌, List, Some, None, sym, refl, ap, ◌∙◌, add-mul, arith}
+use Rattle.std.proofs.lemmas.Bool.Decides.{nat_tests}
 use Rattle.std.proofs.lemmas.Bool.{le-leb, cond-true}
 use Rattle.register.specs.declared.row.Row.{Row}
 use Rattle.register.specs.Rows.{lookup, removed}
 use Rattle.ledger.specs.declared.order.Order.{Order}
 use Rattle.ledger.specs.declared.order.OrderKind.{OrderKind}
-use Rattle.ledger.specs.declared.order.OrderKind.TheVariants.{SellOpen, BuyOpen, BuyClose, SellClose, LegClose}
+use Rattle.ledger.specs.declared.order.OrderKind.TheVariants.{LegClose}
 use Rattle.ledger.specs.Ledger.{Entry, under, put, order_less}
 use Rattle.ledger.specs.Content.{contract_of}
 use Rattle.ledger.specs.Law.{closes_written, closes_bought, engages}
@@ -14,7 +15,6 @@ use Rattle.ledger.specs.OrderRules.{working_sum, opens_written, opens_bought}
 use Rattle.ledger.specs.Runs.{Numbers}
 use Rattle.ledger.proofs.Entries.{weighed}
 use Rattle.ledger.proofs.Lessened.{less_weight, weighed_lessened, lessened_parts, in_use_rest}
-use Rattle.ledger.proofs.Codes.{order_else}
 
 pub split_mul : (n k r : ℕ) → k ≤ n → (n - k) * r + k * r ≡ n * r
 split_mul n k r h = sym (add-mul (n - k) k r) ∙ ap (λ x. x * r) (omega arith)
@@ -58,17 +58,11 @@ Splits f o k kind = f (of_lots (o.lots - k) o) kind + f (of_lots k o) kind ≡ f
 
 pub order_splits : (a c n : ℕ) (o : Order) (k : ℕ) (kind : OrderKind) → k ≤ o.lots →
     Splits (closes_written a c) o k kind × Splits (closes_bought a c) o k kind × Splits (opens_written a c) o k kind × Splits (opens_bought a c) o k kind × Splits (engages n) o k kind
-order_splits a c n o k (SellOpen x) h = (refl, refl, grind arith, refl, refl)
-order_splits a c n o k (BuyOpen x) h = (refl, refl, refl, grind arith, refl)
-order_splits a c n o k (BuyClose x) h = (grind arith, refl, refl, refl, refl)
-order_splits a c n o k (SellClose x) h = (refl, grind arith, refl, refl, refl)
 order_splits a c n o k (LegClose j x) h = (refl, refl, refl, refl, grind arith)
+order_splits a c n o k kind h = (grind arith, grind arith, grind arith, grind arith, refl)
 
 -- it claims and opens at its account and contract alone
 pub elsewhere : (x y : ℕ) (o : Order) (kind : OrderKind) → ((x ≡ o.account) × (y ≡ contract_of kind) → ⊥) →
     (closes_written x y o kind ≡ 0) × (closes_bought x y o kind ≡ 0) × (opens_written x y o kind ≡ 0) × (opens_bought x y o kind ≡ 0)
-elsewhere x y o (SellOpen c) off = (refl, refl, order_else o.account c o.lots 0 x y off, refl)
-elsewhere x y o (BuyOpen c) off = (refl, refl, refl, order_else o.account c o.lots 0 x y off)
-elsewhere x y o (BuyClose c) off = (order_else o.account c o.lots 0 x y off, refl, refl, refl)
-elsewhere x y o (SellClose c) off = (refl, order_else o.account c o.lots 0 x y off, refl, refl)
 elsewhere x y o (LegClose n c) off = (refl, refl, refl, refl)
+elsewhere x y o kind off = (grind (arith, nat_tests), grind (arith, nat_tests), grind (arith, nat_tests), grind (arith, nat_tests))
