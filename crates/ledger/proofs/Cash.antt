@@ -13,7 +13,7 @@ use Rattle.ledger.proofs.Moved.{all_alike}
 
 -- balance and cash total move together, and nothing else
 abbrev funded : ℕ → ℕ → Ledger → Ledger
-funded came went l = record { came_in = came; went_out = went; bought = l.bought; written = l.written; combinations = l.combinations; orders = l.orders; next_combination = l.next_combination; next_order = l.next_order }
+funded came went l = record l { came_in = came; went_out = went }
 
 cash_moved : (m : Meaning) (l : Ledger) (b : Tables) (balance cash came went : ℕ) → Law m l b → balance + b.funds.held + b.funds.reserved + went ≡ came → cash + went ≡ came → cash ≤ 10 ^ 17 →
     Law m (funded came went l) (funds_to (record { balance = balance; held = b.funds.held; reserved = b.funds.reserved; cash = cash }) b)

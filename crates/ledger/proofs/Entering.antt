@@ -19,7 +19,7 @@ use Rattle.ledger.proofs.Entries.{under_above, under_parts, weighed_cons}
 use Rattle.ledger.proofs.Moved.{AllLots}
 
 abbrev pub with_rows : List Position → List (Row Combination) → Tables → Tables
-with_rows ps cr b = record { listing = b.listing; permitted = b.permitted; positions = ps; combinations = cr; orders = b.orders; combination_series = b.combination_series; order_series = b.order_series; funds = b.funds }
+with_rows ps cr b = record b { positions = ps; combinations = cr }
 
 -- what an order needs to be entered
 pub record Ready (m : Meaning) (l : Ledger) (b : Tables) (o : Order) (amount : ℕ) (ps : List Position) (cr : List (Row Combination)) : Type 0 where

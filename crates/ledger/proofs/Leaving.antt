@@ -24,10 +24,10 @@ use Rattle.ledger.proofs.Moved.{AllLots}
 
 -- what is left in the ledger and in the tables
 abbrev pub left : Ledger → ℕ → ℕ → Order → ℕ → ℕ → (ℕ → ℕ → ℕ) → (ℕ → ℕ → ℕ) → List (Entry Pairing) → Ledger
-left l n lots o came went bought written es = record { came_in = came; went_out = went; bought = bought; written = written; combinations = es; orders = put n (order_less lots o) l.orders; next_combination = l.next_combination; next_order = l.next_order }
+left l n lots o came went bought written es = record l { came_in = came; went_out = went; bought = bought; written = written; combinations = es; orders = put n (order_less lots o) l.orders }
 
 abbrev pub left_tables : Tables → ℕ → ℕ → Order → List Position → List (Row Combination) → Funds → Tables
-left_tables b n lots o ps cr f = record { listing = b.listing; permitted = b.permitted; positions = ps; combinations = cr; orders = order_rest n lots o b.orders; combination_series = b.combination_series; order_series = b.order_series; funds = f }
+left_tables b n lots o ps cr f = record b { positions = ps; combinations = cr; orders = order_rest n lots o b.orders; funds = f }
 
 -- an order under its number, and lots of it
 pub record Part (l : Ledger) (n lots : ℕ) (o : Order) : Type 0 where

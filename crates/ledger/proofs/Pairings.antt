@@ -27,7 +27,7 @@ use Rattle.ledger.proofs.Tests.{some_of}
 use Rattle.ledger.proofs.Shares.{split_mul}
 
 abbrev pub pair_lots : ℕ → Pairing → Pairing
-pair_lots k p = record { account = p.account; strategy = p.strategy; first = p.first; second = p.second; lots = k }
+pair_lots k p = record p { lots = k }
 
 -- a row's content
 abbrev pub combination_with : ℕ → Pairing → Combination

@@ -20,10 +20,10 @@ use Rattle.ledger.proofs.Moved.{AllLots}
 use Rattle.ledger.proofs.Legs.{NamedStays, order_stays}
 
 abbrev pub regrouped : List (Entry Pairing) → ℕ → Ledger → Ledger
-regrouped es next l = record { came_in = l.came_in; went_out = l.went_out; bought = l.bought; written = l.written; combinations = es; orders = l.orders; next_combination = next; next_order = l.next_order }
+regrouped es next l = record l { combinations = es; next_combination = next }
 
 abbrev pub regrouped_tables : List Position → List (Row Combination) → Series → Funds → Tables → Tables
-regrouped_tables ps cr next f b = record { listing = b.listing; permitted = b.permitted; positions = ps; combinations = cr; orders = b.orders; combination_series = next; order_series = b.order_series; funds = f }
+regrouped_tables ps cr next f b = record b { positions = ps; combinations = cr; combination_series = next; funds = f }
 
 -- what is to be shown of the new combinations, rows and margins
 pub record Regrouped (m : Meaning) (l l' : Ledger) (b b' : Tables) (back taken : ℕ) : Type 0 where

@@ -25,7 +25,7 @@ times_both p i q j r e = omega (arith, ap (λ z. r * z) e)
 -- Orders ----------------------------------------------------------------------------------------
 
 abbrev pub of_lots : ℕ → Order → Order
-of_lots k o = record { account = o.account; kind = o.kind; lots = k; limit = o.limit }
+of_lots k o = record o { lots = k }
 
 -- a weight of orders that goes by lots
 abbrev pub ByLots : (Order → ℕ) → Type 0
