@@ -118,12 +118,7 @@ module _ (m : Meaning) (l : Ledger) (b : Tables) (law : Law m l b) (p : Pairing)
         bought_free = omega (arith, lot₂.bought_free, more_bought a p.second, two.bought_second);
         written_free = written_free₂;
       })
-      (λ x y nf ns. record {
-        bought = refl;
-        written = refl;
-        claimed_bought = omega (arith, more_bought x y, two.bought_else x y nf);
-        claimed_written = omega (arith, more_written x y, two.written_else x y nf ns);
-      })
+      (λ x y nf ns. record { bought = refl; written = refl; claimed_bought = omega (arith, more_bought x y, two.bought_else x y nf); claimed_written = omega (arith, more_written x y, two.written_else x y nf ns) })
 
   next_is : next_of b.combination_series ≡ next
   next_is = law.beside.next_combination

@@ -120,12 +120,7 @@ module _ (m : Meaning) (l : Ledger) (b : Tables) (law : Law m l b) (n k c lots p
           bought_free = omega (arith, lot_other.bought_free, claims_bought a leg.other);
           written_free = omega (arith, lot_other.written_free, claims_written a leg.other, W_other);
         })
-        (λ x y nh no. record {
-          bought = refl;
-          written = W_else x y nh;
-          claimed_bought = omega (arith, claims_bought x y, leg.bought_else x y nh no);
-          claimed_written = omega (arith, claims_written x y, leg.written_else x y nh no);
-        })
+        (λ x y nh no. record { bought = refl; written = W_else x y nh; claimed_bought = omega (arith, claims_bought x y, leg.bought_else x y nh no); claimed_written = omega (arith, claims_written x y, leg.written_else x y nh no) })
 
     -- margin held
     free_else : (x y : ℕ) → ((x ≡ a) × (y ≡ leg.other) → ⊥) → W x y - in_combinations l' x y ≡ l.written x y - in_combinations l x y

@@ -92,12 +92,7 @@ module _ (m : Meaning) (l : Ledger) (b : Tables) (law : Law m l b) (n lots : ℕ
         bought_free = omega (arith, lot₂.bought_free, less_bought a p.second);
         written_free = omega (arith, lot₂.written_free, less_written a p.second);
       })
-      (λ x y nf ns. record {
-        bought = refl;
-        written = refl;
-        claimed_bought = omega (arith, less_bought x y, two.bought_else x y nf);
-        claimed_written = omega (arith, less_written x y, two.written_else x y nf ns);
-      })
+      (λ x y nf ns. record { bought = refl; written = refl; claimed_bought = omega (arith, less_bought x y, two.bought_else x y nf); claimed_written = omega (arith, less_written x y, two.written_else x y nf ns) })
 
   pub ungrouped_keeps : Law m l' (released m b n lots (combination_with (engaged l n) p))
   ungrouped_keeps = regrouped_keeps m l b law es l.next_combination unlocked.positions (combination_rest n lots 0 (combination_with (engaged l n) p) b.combinations) b.combination_series _ _ (record {
