@@ -92,7 +92,7 @@ module _ {T X : Type 0} (seen : T → X) where
         (perm_by _ _ (seen x ∷ shown (removed rs n)) (seen x ∷ standing) refl (ap (λ y. y ∷ standing) (sym q.1.1)) (IsPermutation-cons (seen x) (shown (removed rs n)) standing rest))
 
 -- a book and its ledger
-module _ (m : Meaning) (l : Ledger) (b : Tables) (law : Law m l b) where
+module _ {m : Meaning} {l : Ledger} {b : Tables} (law : Law m l b) where
   same_row : (eng : ℕ) (o : Option Pairing) → Match content (λ p. p) (combination_under eng o) o
   same_row eng (Some p) = refl
   same_row eng None = refl
@@ -146,16 +146,16 @@ same_books_balance m n b d kept kept' meaning contracts same =
     let lot = law.beside.lots a code on.2.0 on.0 on.1 on.2.1 in
     let lot' = law'.beside.lots a code on'.2.0 on'.0 on'.1 on'.2.1 in
     (sym lot.bought ∙ same.bought a code on ∙ lot'.bought, sym lot.written ∙ same.written a code on ∙ lot'.written))
-    (λ off. let none = none_elsewhere m l b law a code off in
-    let none' = none_elsewhere n k d law' a code (λ on. off (back a code on)) in
+    (λ off. let none = none_elsewhere law a code off in
+    let none' = none_elsewhere law' a code (λ on. off (back a code on)) in
     (omega arith, omega arith))
     (on_or_off (contracts_of b) a code) in
     let standing : SameStanding l k = record {
       bought = λ a code. (owned a code).0;
       written = λ a code. (owned a code).1;
-      combinations = IsPermutation-trans (combinations_of l) (book_combinations b) (combinations_of k) (IsPermutation-sym (book_combinations b) (combinations_of l) (combinations_shown m l b law))
-          (IsPermutation-trans (book_combinations b) (book_combinations d) (combinations_of k) same.combinations (combinations_shown n k d law'));
-      orders = IsPermutation-trans (orders_of l) (book_orders b) (orders_of k) (IsPermutation-sym (book_orders b) (orders_of l) (orders_shown m l b law))
-          (IsPermutation-trans (book_orders b) (book_orders d) (orders_of k) same.orders (orders_shown n k d law'));
+      combinations = IsPermutation-trans (combinations_of l) (book_combinations b) (combinations_of k) (IsPermutation-sym (book_combinations b) (combinations_of l) (combinations_shown law))
+          (IsPermutation-trans (book_combinations b) (book_combinations d) (combinations_of k) same.combinations (combinations_shown law'));
+      orders = IsPermutation-trans (orders_of l) (book_orders b) (orders_of k) (IsPermutation-sym (book_orders b) (orders_of l) (orders_shown law))
+          (IsPermutation-trans (book_orders b) (book_orders d) (orders_of k) same.orders (orders_shown law'));
     } in
     equal_balances m n l k b d law law' meaning contracts (omega (arith, same.cash, law.beside.cash, law'.beside.cash)) standing

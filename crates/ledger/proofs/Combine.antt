@@ -47,7 +47,7 @@ engages_none ps next a o (LegClose j c) below g =
     grind (arith, nat_tests)
 engages_none ps next a o kind below g = refl
 
-module _ (m : Meaning) (l : Ledger) (b : Tables) (law : Law m l b) (p : Pairing) (account : (1 ≤ p.account) × (p.account ≤ 8)) (some : 1 ≤ p.lots) (fitted : Fitted (contracts_of b) p)
+module _ {m : Meaning} {l : Ledger} {b : Tables} (law : Law m l b) (p : Pairing) (account : (1 ≤ p.account) × (p.account ≤ 8)) (some : 1 ≤ p.lots) (fitted : Fitted (contracts_of b) p)
     (free_one : p.lots ≤ free_first p.strategy (position_of b p.account p.first)) (free_two : p.lots ≤ free_written (position_of b p.account p.second))
     (enough : p.lots * pair_per_lot m (contracts_of b) p.strategy p.first p.second - p.lots * legs_per_lot m (contracts_of b) p.strategy p.first p.second ≤ b.funds.balance)
     (number : next_of b.combination_series ≤ 2 ^ 32 - 1) where
@@ -144,7 +144,7 @@ module _ (m : Meaning) (l : Ledger) (b : Tables) (law : Law m l b) (p : Pairing)
 
     pub grouped_keeps : Law m l' (regrouped_tables locked.positions rows (moved_on b.combination_series)
         (margins_moved (p.lots * legs_per_lot m (contracts_of b) p.strategy p.first p.second) (p.lots * pair_per_lot m (contracts_of b) p.strategy p.first p.second) b.funds) b)
-    grouped_keeps = regrouped_keeps m l b law es (next + 1) locked.positions rows (moved_on b.combination_series) _ _ (record {
+    grouped_keeps = regrouped_keeps law es (next + 1) locked.positions rows (moved_on b.combination_series) _ _ (record {
       rows = length-set _ _ _ ∙ length-set _ _ _ ∙ law.sound.position_rows;
       lots = locked_lots;
       found = found;
@@ -174,6 +174,6 @@ combine_stays m b a strategy first second lots x after h l law =
       (s, found),
       subst (λ z. Law m (combined a z first second lots l) after) (sym found)
           (subst (λ z. Law m (combined a (Some s) first second lots l) z) (sym taken.1.1.0)
-          (grouped_keeps m l b law p (within 1 8 a u.0) (within 1 1000 lots u.1.1.0).0 (record { first = fit.0; second = fit.1; first_listed = fit.2; second_listed = fit.3; fit = fit.4 })
+          (grouped_keeps law p (within 1 8 a u.0) (within 1 1000 lots u.1.1.0).0 (record { first = fit.0; second = fit.1; first_listed = fit.2; second_listed = fit.3; fit = fit.4 })
           (ltb-false _ _ (or_parts _ _ free).0) (ltb-false _ _ (or_parts _ _ free).1) (ltb-false _ _ enough) (ltb-false (2 ^ 32 - 1) (next_of b.combination_series) u.1.1.1.1.1.1.1.0) taken.0 taken.1.0)),
     )

@@ -16,7 +16,7 @@ use Rattle.ledger.proofs.Tests.{standing_at}
 use Rattle.ledger.proofs.Pairings.{leg_parts}
 use Rattle.ledger.proofs.Claims.{two_legs}
 
-module _ (m : Meaning) (l : Ledger) (b : Tables) (law : Law m l b) where
+module _ {m : Meaning} {l : Ledger} {b : Tables} (law : Law m l b) where
   module _ (n lots : ℕ) where
     abbrev made : ℕ → OrderKind → ℕ → ℕ → Order
     made a kind whole limit = record { account = a; kind = kind; lots = whole; limit = limit }

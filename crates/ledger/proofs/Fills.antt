@@ -32,7 +32,7 @@ use Rattle.ledger.proofs.Others.{OtherLeg, other_of}
 use Rattle.ledger.proofs.Fillable.{fillable}
 use Rattle.ledger.proofs.LegFill.{leg_close_filled}
 
-module _ (m : Meaning) (l : Ledger) (b : Tables) (law : Law m l b) (n : ℕ) where
+module _ {m : Meaning} {l : Ledger} {b : Tables} (law : Law m l b) (n : ℕ) where
   abbrev made : ℕ → OrderKind → ℕ → ℕ → Order
   made a kind lots limit = record { account = a; kind = kind; lots = lots; limit = limit }
 
@@ -59,7 +59,7 @@ module _ (m : Meaning) (l : Ledger) (b : Tables) (law : Law m l b) (n : ℕ) whe
         let filled_up : Tables → Tables = λ to. funds_to (filled_funds (leg_flow m b c limit lots price (Some (combination_with (engaged l k) p))) b.funds)
         (combinations_to (combination_rest k lots lots (combination_with (engaged l k) p) b.combinations) b.combination_series to) in
         let law' : Law m known (filled_up (at p.account leg.other leg.move (at p.account c (closing_written lots) (rest o))))
-        = leg_close_filled m l b law n k c lots price whole limit p stands part leg cheap in
+        = leg_close_filled law n k c lots price whole limit p stands part leg cheap in
         let law₂ : Law m known (leg_traded m b o k c lots price (rest o) (Some (combination_with (engaged l k) p)))
         = subst (λ z. Law m known (filled_up z)) (sym (leg.unlocked (engaged l k) (at p.account c (closing_written lots) (rest o)))) law' in
         let law₃ : Law m known (tables_then o) = subst (λ z. Law m known (leg_traded m b o k c lots price (rest o) z)) (sym (row_of law k p stands)) law₂ in
@@ -69,7 +69,7 @@ module _ (m : Meaning) (l : Ledger) (b : Tables) (law : Law m l b) (n : ℕ) whe
         (sells kind && ltb (10 ^ 17) (b.funds.cash + lots * price * unit_of (by_code (contracts_of b) (contract_of kind)))) ≡ false →
         Law m (ledger_then (made a kind whole limit)) (tables_then (made a kind whole limit))
     filled_as (SellOpen c) a whole limit part priced cashed =
-        moving_keeps m l b law n lots (made a (SellOpen c) whole limit) part (flow m b (SellOpen c) limit lots price) _ _ l.bought (more a c lots l.written) (writing lots) 0 0 0 lots (record {
+        moving_keeps law part (flow m b (SellOpen c) limit lots price) _ _ l.bought (more a c lots l.written) (writing lots) 0 0 0 lots (record {
           covered = flow_covered m b limit lots price (SellOpen c) priced;
           cash_most = omega (arith, law.beside.cash, ltb-false (10 ^ 17) (b.funds.cash + lots * price * unit_of (by_code (contracts_of b) c)) cashed);
           unengaged = λ k. refl;
@@ -78,7 +78,7 @@ module _ (m : Meaning) (l : Ledger) (b : Tables) (law : Law m l b) (n : ℕ) whe
           written_side = opened lots (one_here a c lots 0) refl;
         })
     filled_as (BuyOpen c) a whole limit part priced cashed =
-        moving_keeps m l b law n lots (made a (BuyOpen c) whole limit) part (flow m b (BuyOpen c) limit lots price) _ _ (more a c lots l.bought) l.written (buying lots) 0 lots 0 0 (record {
+        moving_keeps law part (flow m b (BuyOpen c) limit lots price) _ _ (more a c lots l.bought) l.written (buying lots) 0 lots 0 0 (record {
           covered = flow_covered m b limit lots price (BuyOpen c) priced;
           cash_most = omega (arith, law.sound.cash);
           unengaged = λ k. refl;
@@ -87,7 +87,7 @@ module _ (m : Meaning) (l : Ledger) (b : Tables) (law : Law m l b) (n : ℕ) whe
           written_side = stays refl;
         })
     filled_as (BuyClose c) a whole limit part priced cashed =
-        moving_keeps m l b law n lots (made a (BuyClose c) whole limit) part (flow m b (BuyClose c) limit lots price) _ _ l.bought (fewer a c lots l.written) (closing_written lots) 0 0 lots 0 (record {
+        moving_keeps law part (flow m b (BuyClose c) limit lots price) _ _ l.bought (fewer a c lots l.written) (closing_written lots) 0 0 lots 0 (record {
           covered = flow_covered m b limit lots price (BuyClose c) priced;
           cash_most = omega (arith, law.sound.cash);
           unengaged = λ k. refl;
@@ -96,7 +96,7 @@ module _ (m : Meaning) (l : Ledger) (b : Tables) (law : Law m l b) (n : ℕ) whe
           written_side = closed lots (one_here a c lots 0);
         })
     filled_as (SellClose c) a whole limit part priced cashed =
-        moving_keeps m l b law n lots (made a (SellClose c) whole limit) part (flow m b (SellClose c) limit lots price) _ _ (fewer a c lots l.bought) l.written (closing_bought lots) lots 0 0 0 (record {
+        moving_keeps law part (flow m b (SellClose c) limit lots price) _ _ (fewer a c lots l.bought) l.written (closing_bought lots) lots 0 0 0 (record {
           covered = flow_covered m b limit lots price (SellClose c) priced;
           cash_most = omega (arith, law.beside.cash, ltb-false (10 ^ 17) (b.funds.cash + lots * price * unit_of (by_code (contracts_of b) c)) cashed);
           unengaged = λ k. refl;
@@ -121,13 +121,13 @@ module _ (m : Meaning) (l : Ledger) (b : Tables) (law : Law m l b) (n : ℕ) whe
       Law m (left l n lots (made a kind lots limit) l.came_in l.went_out l.bought l.written l.combinations)
       (left_tables b n lots (made a kind lots limit) b.positions b.combinations (filled_funds (returned (lots * reserve m (contracts_of b) l.combinations kind limit)) b.funds))
   open_cancelled kind a lots limit part un none =
-      still_keeps m l b law n lots (made a kind lots limit) part (lots * reserve m (contracts_of b) l.combinations kind limit) b.combinations refl none
-      (λ k. law.beside.combinations k ∙ ap (λ z. combination_under z (under l.combinations k)) (omega (arith, engaged_left m l b law n lots (made a kind lots limit) part k, un k))) law.sound.combination_rows
+      still_keeps law part (lots * reserve m (contracts_of b) l.combinations kind limit) b.combinations refl none
+      (λ k. law.beside.combinations k ∙ ap (λ z. combination_under z (under l.combinations k)) (omega (arith, engaged_left law part k, un k))) law.sound.combination_rows
 
   cancelled_as : (kind : OrderKind) (a lots limit : ℕ) → Part l n lots (made a kind lots limit) →
       Law m (left l n lots (made a kind lots limit) l.came_in l.went_out l.bought l.written l.combinations) (cancelled_then (made a kind lots limit) (order_rest n lots (made a kind lots limit) b.orders))
   cancelled_as (BuyClose c) a lots limit part =
-      moving_keeps m l b law n lots (made a (BuyClose c) lots limit) part (returned (lots * (limit * unit_of (by_code (contracts_of b) c)))) _ _ l.bought l.written (unlocking_written lots) 0 0 0 0 (record {
+      moving_keeps law part (returned (lots * (limit * unit_of (by_code (contracts_of b) c)))) _ _ l.bought l.written (unlocking_written lots) 0 0 0 0 (record {
         covered = omega arith;
         cash_most = omega (arith, law.sound.cash);
         unengaged = λ k. refl;
@@ -136,7 +136,7 @@ module _ (m : Meaning) (l : Ledger) (b : Tables) (law : Law m l b) (n : ℕ) whe
         written_side = unlocked lots (one_here a c lots 0);
       })
   cancelled_as (SellClose c) a lots limit part =
-      moving_keeps m l b law n lots (made a (SellClose c) lots limit) part (returned (lots * 0)) _ _ l.bought l.written (unlocking_bought lots) 0 0 0 0 (record {
+      moving_keeps law part (returned (lots * 0)) _ _ l.bought l.written (unlocking_bought lots) 0 0 0 0 (record {
         covered = omega arith;
         cash_most = omega (arith, law.sound.cash);
         unengaged = λ k. refl;
@@ -150,9 +150,9 @@ module _ (m : Meaning) (l : Ledger) (b : Tables) (law : Law m l b) (n : ℕ) whe
       let p : Pairing = g.combination in
       let l' : Ledger = left l n lots o l.came_in l.went_out l.bought l.written l.combinations in
       let found : lookup b.combinations k ≡ Some (combination_with (engaged l k) p) = row_of law k p g.stands in
-      let less : (j : ℕ) → engaged l' j + when (eqb k j) lots ≡ engaged l j = λ j. engaged_left m l b law n lots o part j in
+      let less : (j : ℕ) → engaged l' j + when (eqb k j) lots ≡ engaged l j = λ j. engaged_left law part j in
       subst (λ z. Law m l' (funds_to (fill_funds (lots * leg_reserve m b c limit z) 0 0 0 0 b.funds) (disengaged b k lots (orders_to (order_rest n lots o b.orders) b.order_series b) z))) (sym found)
-      (still_keeps m l b law n lots o part (lots * leg_close_reserve m (contracts_of b) c limit (Some p)) (changed b.combinations k (combination_with (engaged l k - lots) p))
+      (still_keeps law part (lots * leg_close_reserve m (contracts_of b) c limit (Some p)) (changed b.combinations k (combination_with (engaged l k - lots) p))
       (ap (λ z. lots * leg_close_reserve m (contracts_of b) c limit z) (sym g.stands)) (λ i j. (refl, refl))
       (λ j. let rest_is = less j in engaged_row law k p (engaged l k - lots) (engaged l' j) j g.stands (grind (arith, nat_tests)))
       (apart_changed b.combinations k (combination_with (engaged l k - lots) p) law.sound.combination_rows))
@@ -167,10 +167,10 @@ fill_stays m b n lots price x after h l law =
     let enough = unmet_at _ q.2 u.1.1.1.0 in
     let few : lots ≤ z.lots = ltb-false _ _ enough in
     let taken' = stands_as _ q.2 h.1 in (
-      standing_at (λ (w : Order). (lots ≤ w.lots) × Fillable l w.account lots w.kind) q.1 (few, fillable m l b law n lots z.kind z.account z.lots z.limit q.1 few),
+      standing_at (λ (w : Order). (lots ≤ w.lots) × Fillable l w.account lots w.kind) q.1 (few, fillable law n lots z.kind z.account z.lots z.limit q.1 few),
       subst (λ w. Law m (filled (contracts_of b) n w lots price l) after) (sym q.1)
           (subst (λ w. Law m (filled (contracts_of b) n (Some z) lots price l) w) (sym taken'.0)
-          (filled_as m l b law n lots price z.kind z.account z.lots z.limit (record { stands = q.1; within = few }) (unmet_at _ q.2 u.1.1.1.1.0) (unmet_at _ q.2 u.1.1.1.1.1.1.0))),
+          (filled_as law n lots price z.kind z.account z.lots z.limit (record { stands = q.1; within = few }) (unmet_at _ q.2 u.1.1.1.1.0) (unmet_at _ q.2 u.1.1.1.1.1.1.0))),
     )
 
 pub cancel_stays : (m : Meaning) (b : Tables) (n : ℕ) → Stays m b (call.Cancel n)
@@ -180,11 +180,11 @@ cancel_stays m b n x after h l law =
     let q = order_at law n u.0 in
     let z : Order = q.0 in
     let taken' = stands_as _ q.2 h.1 in
-    let law' : Law m (ledger_orders_to (put n (order_less z.lots z) l.orders) l) (cancelled_then m l b law n z (order_rest n z.lots z b.orders))
-    = cancelled_as m l b law n z.kind z.account z.lots z.limit (record { stands = q.1; within = omega arith }) in
-    let law₂ : Law m (ledger_orders_to (put n None l.orders) l) (cancelled_then m l b law n z (order_rest n z.lots z b.orders))
-    = subst (λ w. Law m (ledger_orders_to (put n w l.orders) l) (cancelled_then m l b law n z (order_rest n z.lots z b.orders))) (all_gone z) law' in (
+    let law' : Law m (ledger_orders_to (put n (order_less z.lots z) l.orders) l) (cancelled_then law n z (order_rest n z.lots z b.orders))
+    = cancelled_as law n z.kind z.account z.lots z.limit (record { stands = q.1; within = omega arith }) in
+    let law₂ : Law m (ledger_orders_to (put n None l.orders) l) (cancelled_then law n z (order_rest n z.lots z b.orders))
+    = subst (λ w. Law m (ledger_orders_to (put n w l.orders) l) (cancelled_then law n z (order_rest n z.lots z b.orders))) (all_gone z) law' in (
       (z, q.1),
       subst (λ w. Law m (ledger_orders_to (put n None l.orders) l) w) (sym taken'.0)
-          (subst (λ w. Law m (ledger_orders_to (put n None l.orders) l) (cancelled_then m l b law n z w)) (all_freed b.orders n z) law₂),
+          (subst (λ w. Law m (ledger_orders_to (put n None l.orders) l) (cancelled_then law n z w)) (all_freed b.orders n z) law₂),
     )

@@ -1,5 +1,5 @@
 -- The law after some lots of an order are gone, by a fill or a cancel.
-use Rattle.std.proofs.Common.{◌≡◌, ℕ, ◌+◌, ◌-◌, ◌*◌, ◌^◌, ◌<◌, ◌≤◌, cond, eqb, leb, List, length, Some, sym, ap, ◌∙◌, subst, ⊎_elim, arith}
+use Rattle.std.proofs.Common.{◌≡◌, ℕ, ◌+◌, ◌-◌, ◌*◌, ◌^◌, ◌<◌, ◌≤◌, cond, eqb, leb, ◌⊎◌, List, length, Some, sym, refl, ap, ◌∙◌, subst, ⊎_elim, arith}
 use Rattle.register.specs.declared.row.Row.{Row}
 use Rattle.register.specs.Rows.{lookup, Apart}
 use Rattle.ledger.specs.declared.order.Order.{Order}
@@ -17,8 +17,8 @@ use Rattle.ledger.specs.OrderRules.{working_sum, opens_written, opens_bought}
 use Rattle.ledger.specs.Runs.{Law, Sound, SoundOrder, SoundCombination, LegStands, Numbers, OnTheBook}
 use Rattle.ledger.proofs.Entries.{weighed, under_put, numbers_put}
 use Rattle.ledger.proofs.Codes.{at_one}
-use Rattle.ledger.proofs.Lessened.{lookup_rest, apart_rest}
-use Rattle.ledger.proofs.Shares.{of_lots, weighed_less, standing_rest, less_parts, order_splits, split_mul, elsewhere}
+use Rattle.ledger.proofs.Lessened.{lookup_rest, apart_rest, in_use_rest, less_weight, weighed_lessened, lessened_parts}
+use Rattle.ledger.proofs.Shares.{of_lots, ByLots, order_splits, split_mul, elsewhere}
 use Rattle.ledger.proofs.Covered.{Covers}
 use Rattle.ledger.proofs.Moved.{AllLots}
 
@@ -53,7 +53,7 @@ pub record Left (m : Meaning) (l : Ledger) (b : Tables) (lots : ℕ) (o : Order)
   pub written_most : (x y : ℕ) → l'.written x y ≤ l.written x y + opens_written x y (of_lots lots o) o.kind
   pub bought_most : (x y : ℕ) → l'.bought x y ≤ l.bought x y + opens_bought x y (of_lots lots o) o.kind
 
-module _ (m : Meaning) (l : Ledger) (b : Tables) (law : Law m l b) (n lots : ℕ) (o : Order) (part : Part l n lots o) where
+module _ {m : Meaning} {l : Ledger} {b : Tables} (law : Law m l b) {n lots : ℕ} {o : Order} (part : Part l n lots o) where
   abbrev gone : Order
   gone = of_lots lots o
 
@@ -63,29 +63,28 @@ module _ (m : Meaning) (l : Ledger) (b : Tables) (law : Law m l b) (n lots : ℕ
   row_stands : lookup b.orders n ≡ Some o
   row_stands = law.beside.orders n ∙ part.stands
 
-  -- the sums over orders after lots are gone
+  -- what stands after: the rest of the order, or another that stood
+  pub order_parts : (k : ℕ) (x : Order) → under orders_then k ≡ Some x → ((n ≡ k) × (lots < o.lots) × (x ≡ of_lots (o.lots - lots) o)) ⊎ ((n ≡ k → ⊥) × (under l.orders k ≡ Some x))
+  order_parts k x q = lessened_parts (λ (y : Order). y.lots) of_lots (λ y. refl) l.orders l.next_order n lots k o x law.sound.order_numbers part.stands q
+
+  -- sums that go by lots, over the orders and over their rows
+  orders_left : (g : Order → ℕ) → ByLots g → weighed g orders_then + g gone ≡ weighed g l.orders
+  orders_left g by = weighed_lessened (λ (x : Order). x.lots) of_lots (λ x. refl) g by l.orders n lots o part.stands part.within
+
+  rows_left : (g : Order → ℕ) → ByLots g → working_sum (order_rest n lots o b.orders) g + g gone ≡ working_sum b.orders g
+  rows_left g by = omega (arith, in_use_rest (leb o.lots lots) g b.orders n (of_lots (o.lots - lots) o) o row_stands, less_weight (λ (x : Order). x.lots) of_lots (λ x. refl) g by lots o part.within)
+
   pub closes_written_left : (x y : ℕ) → weighed (λ z. closes_written x y z z.kind) orders_then + closes_written x y gone o.kind ≡ weighed (λ z. closes_written x y z z.kind) l.orders
-  closes_written_left x y = weighed_less (λ z. closes_written x y z z.kind) (λ z k h. (order_splits x y 0 z k z.kind h).0) l.orders n lots o part.stands part.within
+  closes_written_left x y = orders_left (λ z. closes_written x y z z.kind) (λ z k h. (order_splits x y 0 z k z.kind h).0)
 
   pub closes_bought_left : (x y : ℕ) → weighed (λ z. closes_bought x y z z.kind) orders_then + closes_bought x y gone o.kind ≡ weighed (λ z. closes_bought x y z z.kind) l.orders
-  closes_bought_left x y = weighed_less (λ z. closes_bought x y z z.kind) (λ z k h. (order_splits x y 0 z k z.kind h).1) l.orders n lots o part.stands part.within
+  closes_bought_left x y = orders_left (λ z. closes_bought x y z z.kind) (λ z k h. (order_splits x y 0 z k z.kind h).1)
 
   pub engaged_left : (k : ℕ) → weighed (λ z. engages k z z.kind) orders_then + engages k gone o.kind ≡ engaged l k
-  engaged_left k = weighed_less (λ z. engages k z z.kind) (λ z j h. (order_splits 0 0 k z j z.kind h).4) l.orders n lots o part.stands part.within
-
-  opens_written_left : (x y : ℕ) → working_sum (order_rest n lots o b.orders) (λ z. opens_written x y z z.kind) + opens_written x y gone o.kind ≡ working_sum b.orders (λ z. opens_written x y z z.kind)
-  opens_written_left x y = standing_rest (λ z. opens_written x y z z.kind) (λ z k h. (order_splits x y 0 z k z.kind h).2) b.orders n lots o row_stands part.within
-
-  opens_bought_left : (x y : ℕ) → working_sum (order_rest n lots o b.orders) (λ z. opens_bought x y z z.kind) + opens_bought x y gone o.kind ≡ working_sum b.orders (λ z. opens_bought x y z z.kind)
-  opens_bought_left x y = standing_rest (λ z. opens_bought x y z z.kind) (λ z k h. (order_splits x y 0 z k z.kind h).3) b.orders n lots o row_stands part.within
+  engaged_left k = orders_left (λ z. engages k z z.kind) (λ z j h. (order_splits 0 0 k z j z.kind h).4)
 
   pub reserves_left : weighed (λ z. z.lots * reserve m (contracts_of b) l.combinations z.kind z.limit) orders_then + lots * reserve m (contracts_of b) l.combinations o.kind o.limit ≡ b.funds.reserved
-  reserves_left = omega (
-    arith,
-    law.beside.reserved,
-    weighed_less (λ z. z.lots * reserve m (contracts_of b) l.combinations z.kind z.limit)
-        (λ z k h. split_mul z.lots k (reserve m (contracts_of b) l.combinations z.kind z.limit) h) l.orders n lots o part.stands part.within,
-  )
+  reserves_left = omega (arith, law.beside.reserved, orders_left (λ z. z.lots * reserve m (contracts_of b) l.combinations z.kind z.limit) (λ z k h. split_mul z.lots k (reserve m (contracts_of b) l.combinations z.kind z.limit) h))
 
   -- a leg stands beside an order and beside the rest of it
   pub legs_left : (k : ℕ) (x : Order) → under orders_then k ≡ Some x → LegStands l.combinations x.account x.kind
@@ -93,7 +92,7 @@ module _ (m : Meaning) (l : Ledger) (b : Tables) (law : Law m l b) (n lots : ℕ
       ⊎_elim
       (λ q. subst (λ y. LegStands l.combinations y.account y.kind) (sym q.2) (law.sound.orders n o part.stands).leg)
       (λ q. (law.sound.orders k x q.1).leg)
-      (less_parts l.orders l.next_order n lots k o x law.sound.order_numbers part.stands p)
+      (order_parts k x p)
 
   pub left_keeps : (w : Flow) (came went : ℕ) (bought written : ℕ → ℕ → ℕ) (es : List (Entry Pairing)) (ps : List Position) (cr : List (Row Combination)) →
       Left m l b lots o w (left l n lots o came went bought written es) (left_tables b n lots o ps cr (filled_funds w b.funds)) →
@@ -135,13 +134,13 @@ module _ (m : Meaning) (l : Ledger) (b : Tables) (law : Law m l b) (n lots : ℕ
               (λ leg'. record { account = old.account; contract = old.contract; lots = (omega arith, omega arith); limit = old.limit; leg = leg' }) leg)
               (λ q. let other : SoundOrder (contracts_of b) l.combinations x = sound.orders k x q.1 in
               record { account = other.account; contract = other.contract; lots = other.lots; limit = other.limit; leg = leg })
-              (less_parts l.orders l.next_order n lots k o x sound.order_numbers part.stands p);
+              (order_parts k x p);
           engaged_most = rest.engaged_most;
           combination_rows = rest.apart;
           order_rows = apart_rest (leb o.lots lots) b.orders n (of_lots (o.lots - lots) o) sound.order_rows;
           last_combination = sound.last_combination;
           last_order = sound.last_order;
-          written_most = λ x y. omega (arith, rest.written_most x y, sound.written_most x y, opens_written_left x y);
-          bought_most = λ x y. omega (arith, rest.bought_most x y, sound.bought_most x y, opens_bought_left x y);
+          written_most = λ x y. omega (arith, rest.written_most x y, sound.written_most x y, rows_left (λ z. opens_written x y z z.kind) (λ z k h. (order_splits x y 0 z k z.kind h).2));
+          bought_most = λ x y. omega (arith, rest.bought_most x y, sound.bought_most x y, rows_left (λ z. opens_bought x y z z.kind) (λ z k h. (order_splits x y 0 z k z.kind h).3));
         };
       }

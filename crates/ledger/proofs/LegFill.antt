@@ -19,16 +19,16 @@ use Rattle.ledger.specs.FillRules.{Flow, leg_flow, filled_funds}
 use Rattle.ledger.specs.Runs.{Law, SoundOrder}
 use Rattle.ledger.proofs.Entries.{weighed_same, numbers_put}
 use Rattle.ledger.proofs.Grid.{legs_moved}
-use Rattle.ledger.proofs.Shares.{times_both, less_parts}
+use Rattle.ledger.proofs.Shares.{times_both}
 use Rattle.ledger.proofs.Moved.{AllLots, lots_moved_twice}
-use Rattle.ledger.proofs.Leaving.{left, left_tables, Part, left_keeps, closes_written_left, closes_bought_left, engaged_left, reserves_left, legs_left}
+use Rattle.ledger.proofs.Leaving.{left, left_tables, Part, left_keeps, order_parts, closes_written_left, closes_bought_left, engaged_left, reserves_left, legs_left}
 use Rattle.ledger.proofs.Covered.{leg_covered}
 use Rattle.ledger.proofs.Codes.{at_one, one_here, one_else}
 use Rattle.ledger.proofs.Pairings.{combination_with, pair_lots, written_claim_by, bought_claim_by, pair_margin_by}
 use Rattle.ledger.proofs.Legs.{NamedStays, order_stays, rest_sum, rest_numbers, rest_apart, rest_rows, rest_sound, rest_engaged, rest_named}
 use Rattle.ledger.proofs.Others.{OtherLeg}
 
-module _ (m : Meaning) (l : Ledger) (b : Tables) (law : Law m l b) (n k c lots price whole limit : ℕ) (p : Pairing) (stands : under l.combinations k ≡ Some p) where
+module _ {m : Meaning} {l : Ledger} {b : Tables} (law : Law m l b) (n k c lots price whole limit : ℕ) (p : Pairing) (stands : under l.combinations k ≡ Some p) where
   abbrev order : Order
   order = record { account = p.account; kind = LegClose k c; lots = whole; limit = limit }
 
@@ -58,7 +58,7 @@ module _ (m : Meaning) (l : Ledger) (b : Tables) (law : Law m l b) (n k c lots p
     P = pair_lots lots p
 
     less_engaged : (j : ℕ) → engaged l' j + when (eqb k j) lots ≡ engaged l j
-    less_engaged j = engaged_left m l b law n lots order part j
+    less_engaged j = engaged_left law part j
 
     here_engaged : engaged l' k + lots ≡ engaged l k
     here_engaged = omega (arith, less_engaged k, cond-true (eqb k k) lots 0 (eq-eqb k k refl))
@@ -70,7 +70,7 @@ module _ (m : Meaning) (l : Ledger) (b : Tables) (law : Law m l b) (n k c lots p
     -- another order of the combination, or the rest of this one, leaves lots of it
     named_stays : (j : ℕ) (x : Order) → under l'.orders j ≡ Some x → NamedStays ps es x.kind
     named_stays j x s = rest_named law k lots p stands l'.orders j x s
-        (⊎_elim (λ q. omega (arith, q.1, ap (λ (z : Order). z.lots) q.2)) (λ q. (law.sound.orders j x q.1).lots.0) (less_parts l.orders l.next_order n lots j order x law.sound.order_numbers part.stands s))
+        (⊎_elim (λ q. omega (arith, q.1, ap (λ (z : Order). z.lots) q.2)) (λ q. (law.sound.orders j x q.1).lots.0) (order_parts law part j x s))
         (omega (arith, here_engaged, law.sound.engaged_most k p stands))
 
     -- sums over combinations and orders
@@ -78,10 +78,10 @@ module _ (m : Meaning) (l : Ledger) (b : Tables) (law : Law m l b) (n k c lots p
     less_written x y = rest_sum law k lots p stands (written_claim x y) (written_claim_by x y) enough
 
     claims_written : (x y : ℕ) → claimed_written l' x y + written_claim x y P ≡ claimed_written l x y
-    claims_written x y = omega (arith, less_written x y, closes_written_left m l b law n lots order part x y)
+    claims_written x y = omega (arith, less_written x y, closes_written_left law part x y)
 
     claims_bought : (x y : ℕ) → claimed_bought l' x y + bought_claim x y P ≡ claimed_bought l x y
-    claims_bought x y = omega (arith, rest_sum law k lots p stands (bought_claim x y) (bought_claim_by x y) enough, closes_bought_left m l b law n lots order part x y)
+    claims_bought x y = omega (arith, rest_sum law k lots p stands (bought_claim x y) (bought_claim_by x y) enough, closes_bought_left law part x y)
 
     fit : SoundOrder cs ps order
     fit = law.sound.orders n order part.stands
@@ -142,9 +142,9 @@ module _ (m : Meaning) (l : Ledger) (b : Tables) (law : Law m l b) (n k c lots p
           arith,
           weighed_same (λ z. z.lots * reserve m cs es z.kind z.limit) (λ z. z.lots * reserve m cs ps z.kind z.limit) l'.orders l.next_order
               (numbers_put l.orders l.next_order n (order_less lots order) law.sound.order_numbers)
-              (λ j x s. ap (λ z. x.lots * z) ((order_stays ps es x.account m cs x.kind x.limit (named_stays j x s) (legs_left m l b law n lots order part j x s)).1)),
+              (λ j x s. ap (λ z. x.lots * z) ((order_stays ps es x.account m cs x.kind x.limit (named_stays j x s) (legs_left law part j x s)).1)),
           ap (λ z. lots * leg_close_reserve m cs c limit z) stands,
-          reserves_left m l b law n lots order part,
+          reserves_left law part,
         )
 
     engaged_now : (j : ℕ) → engaged l' j ≡ cond (eqb k j) (engaged l k - lots) (engaged l j)
@@ -155,7 +155,7 @@ module _ (m : Meaning) (l : Ledger) (b : Tables) (law : Law m l b) (n k c lots p
 
     pub leg_close_filled : Law m l' (left_tables b n lots order (at a leg.other leg.move (at a c (closing_written lots) b)).positions (combination_rest k lots lots (combination_with (engaged l k) p) b.combinations) (filled_funds w b.funds))
     leg_close_filled =
-        left_keeps m l b law n lots order part w l.came_in (l.went_out + premium) l.bought W es _ _ (record {
+        left_keeps law part w l.came_in (l.went_out + premium) l.bought W es _ _ (record {
           covered = leg_covered m b limit lots price c (Some (combination_with (engaged l k) p)) cheap;
           came_is = omega arith;
           went_is = refl;
@@ -167,7 +167,7 @@ module _ (m : Meaning) (l : Ledger) (b : Tables) (law : Law m l b) (n k c lots p
           numbers = rest_numbers law k lots p stands;
           sound = rest_sound law k lots p stands;
           engaged_most = rest_engaged law k lots p stands lots (λ j. engaged l' j) (omega (arith, law.sound.engaged_most k p stands)) engaged_now;
-          legs = λ j x s. (order_stays ps es x.account m cs x.kind x.limit (named_stays j x s) (legs_left m l b law n lots order part j x s)).0;
+          legs = λ j x s. (order_stays ps es x.account m cs x.kind x.limit (named_stays j x s) (legs_left law part j x s)).0;
           held = held_left;
           reserved = reserves_less;
           written_most = at_one (λ x y. W x y ≤ l.written x y + 0) a c (omega (arith, W_here)) (λ x y off. omega (arith, W_else x y off));

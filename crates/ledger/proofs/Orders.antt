@@ -39,7 +39,7 @@ pub record Passed (l : Ledger) (b : Tables) (a code k price amount : ℕ) (test 
   pub number : next_of b.order_series ≤ 2 ^ 32 - 1
   pub lot : Lots l a code (position_of b a code)
 
-module _ (m : Meaning) (l : Ledger) (b : Tables) (law : Law m l b) (a lots limit : ℕ) (kind : OrderKind) where
+module _ {m : Meaning} {l : Ledger} {b : Tables} (law : Law m l b) (a lots limit : ℕ) (kind : OrderKind) where
   abbrev code : ℕ
   code = contract_of kind
 
@@ -144,35 +144,35 @@ module _ (m : Meaning) (b : Tables) (a code lots limit : ℕ) where
   sell_open_stays x after h l law =
       let amount : ℕ = lots * leg_margin_of m (by_code (contracts_of b) code) in
       let working : ℕ = working_sum b.orders (λ z. opens_written a code z z.kind) in
-      let pass = passed m l b law a lots limit (SellOpen code) amount (too_many (position_of b a code).written working lots).1 19 h.0 in (
+      let pass = passed law a lots limit (SellOpen code) amount (too_many (position_of b a code).written working lots).1 19 h.0 in (
         tt,
-        enters m l b law a lots limit (SellOpen code) amount _ b.positions (Ok x) after pass h.1 tt (λ k. refl) refl (unlocked m l b law a lots limit (SellOpen code) (λ i j. (refl, refl)))
+        enters law a lots limit (SellOpen code) amount _ b.positions (Ok x) after pass h.1 tt (λ k. refl) refl (unlocked law a lots limit (SellOpen code) (λ i j. (refl, refl)))
             (omega (arith, ltb-false 10000 ((position_of b a code).written + working + lots) pass.own, pass.lot.written, one_here a code lots 0)) (omega (arith, law.sound.bought_most a code)),
       )
 
   pub buy_open_stays : Stays m b (call.BuyOpen a code lots limit)
   buy_open_stays x after h l law =
       let working : ℕ = working_sum b.orders (λ z. opens_bought a code z z.kind) in
-      let pass = passed m l b law a lots limit (BuyOpen code) cost (too_many (position_of b a code).bought working lots).1 19 h.0 in (
+      let pass = passed law a lots limit (BuyOpen code) cost (too_many (position_of b a code).bought working lots).1 19 h.0 in (
         tt,
-        enters m l b law a lots limit (BuyOpen code) cost _ b.positions (Ok x) after pass h.1 tt (λ k. refl) refl (unlocked m l b law a lots limit (BuyOpen code) (λ i j. (refl, refl)))
+        enters law a lots limit (BuyOpen code) cost _ b.positions (Ok x) after pass h.1 tt (λ k. refl) refl (unlocked law a lots limit (BuyOpen code) (λ i j. (refl, refl)))
             (omega (arith, law.sound.written_most a code)) (omega (arith, ltb-false 10000 ((position_of b a code).bought + working + lots) pass.own, pass.lot.bought, one_here a code lots 0)),
       )
 
   pub buy_close_stays : Stays m b (call.BuyClose a code lots limit)
   buy_close_stays x after h l law =
-      let pass = passed m l b law a lots limit (BuyClose code) cost (ltb (free_written (position_of b a code)) lots) 18 h.0 in (
+      let pass = passed law a lots limit (BuyClose code) cost (ltb (free_written (position_of b a code)) lots) 18 h.0 in (
         tt,
-        enters m l b law a lots limit (BuyClose code) cost _ (at a code (locking_written lots) b).positions (Ok x) after pass h.1 tt (λ k. refl) refl
-            (locked m l b law a lots limit (BuyClose code) cost _ (locking_written lots) pass refl refl (omega arith) (omega (arith, one_here a code lots 0)) (omega arith) (omega (arith, ltb-false _ _ pass.own, one_here a code lots 0)))
+        enters law a lots limit (BuyClose code) cost _ (at a code (locking_written lots) b).positions (Ok x) after pass h.1 tt (λ k. refl) refl
+            (locked law a lots limit (BuyClose code) cost _ (locking_written lots) pass refl refl (omega arith) (omega (arith, one_here a code lots 0)) (omega arith) (omega (arith, ltb-false _ _ pass.own, one_here a code lots 0)))
             (omega (arith, law.sound.written_most a code)) (omega (arith, law.sound.bought_most a code)),
       )
 
   pub sell_close_stays : Stays m b (call.SellClose a code lots limit)
   sell_close_stays x after h l law =
-      let pass = passed m l b law a lots limit (SellClose code) 0 (ltb (free_bought (position_of b a code)) lots) 18 h.0 in (
+      let pass = passed law a lots limit (SellClose code) 0 (ltb (free_bought (position_of b a code)) lots) 18 h.0 in (
         tt,
-        enters m l b law a lots limit (SellClose code) 0 _ (at a code (locking_bought lots) b).positions (Ok x) after pass h.1 tt (λ k. refl) (omega arith)
-            (locked m l b law a lots limit (SellClose code) 0 _ (locking_bought lots) pass refl refl (omega (arith, one_here a code lots 0)) (omega arith) (omega (arith, ltb-false _ _ pass.own, one_here a code lots 0)) (omega arith))
+        enters law a lots limit (SellClose code) 0 _ (at a code (locking_bought lots) b).positions (Ok x) after pass h.1 tt (λ k. refl) (omega arith)
+            (locked law a lots limit (SellClose code) 0 _ (locking_bought lots) pass refl refl (omega (arith, one_here a code lots 0)) (omega arith) (omega (arith, ltb-false _ _ pass.own, one_here a code lots 0)) (omega arith))
             (omega (arith, law.sound.written_most a code)) (omega (arith, law.sound.bought_most a code)),
       )

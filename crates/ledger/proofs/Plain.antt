@@ -65,7 +65,7 @@ module _ {a c : ℕ} {own : ℕ → ℕ → ℕ} {opens closes has locked : ℕ}
     unlocked = ap (λ z. locked - z) (sym e);
   }
 
-module _ (m : Meaning) (l : Ledger) (b : Tables) (law : Law m l b) (n lots : ℕ) (o : Order) (part : Part l n lots o) where
+module _ {m : Meaning} {l : Ledger} {b : Tables} (law : Law m l b) {n lots : ℕ} {o : Order} (part : Part l n lots o) where
   abbrev cs : List Contract
   cs = contracts_of b
 
@@ -99,17 +99,17 @@ module _ (m : Meaning) (l : Ledger) (b : Tables) (law : Law m l b) (n lots : ℕ
       let C : Contract = fit.contract.0 in
       let is : by_code cs c ≡ Some C = fit.contract.1 in
       let lot : Lots l a c p = law.beside.lots a c C fit.account.0 fit.account.1 is in
-      let cw : (x y : ℕ) → claimed_written l' x y + closes_written x y gone o.kind ≡ claimed_written l x y = λ x y. omega (arith, closes_written_left m l b law n lots o part x y) in
-      let cb : (x y : ℕ) → claimed_bought l' x y + closes_bought x y gone o.kind ≡ claimed_bought l x y = λ x y. omega (arith, closes_bought_left m l b law n lots o part x y) in
+      let cw : (x y : ℕ) → claimed_written l' x y + closes_written x y gone o.kind ≡ claimed_written l x y = λ x y. omega (arith, closes_written_left law part x y) in
+      let cb : (x y : ℕ) → claimed_bought l' x y + closes_bought x y gone o.kind ≡ claimed_bought l x y = λ x y. omega (arith, closes_bought_left law part x y) in
       let ws = s.written_side in
       let bs = s.bought_side in
       let W : written a c + out ≡ l.written a c + come = ws.owned (omega (arith, cw a c, lot.written_free)) in
       let B : bought a c + off ≡ l.bought a c + on = bs.owned (omega (arith, cb a c, lot.bought_free)) in
-      let engaged_still : (k : ℕ) → engaged l' k ≡ engaged l k = λ k. omega (arith, engaged_left m l b law n lots o part k, s.unengaged k) in
+      let engaged_still : (k : ℕ) → engaged l' k ≡ engaged l k = λ k. omega (arith, engaged_left law part k, s.unengaged k) in
       let sums = legs_moved m.leg (λ x y. written x y - in_combinations l x y) (λ x y. l.written x y - in_combinations l x y) cs 0 a c C law.sound.codes is fit.account.0 fit.account.1
       (λ x y far. ap (λ z. z - in_combinations l x y) (ws.else x y far)) in
       let free = times_both (written a c - in_combinations l a c) out (l.written a c - in_combinations l a c) come (m.leg C) (omega (arith, W, ws.closed, cw a c, lot.written_free)) in
-      left_keeps m l b law n lots o part w came went bought written l.combinations (at a c move b).positions b.combinations (record {
+      left_keeps law part w came went bought written l.combinations (at a c move b).positions b.combinations (record {
         covered = s.covered;
         came_is = s.funds.0;
         went_is = s.funds.1;
@@ -131,9 +131,9 @@ module _ (m : Meaning) (l : Ledger) (b : Tables) (law : Law m l b) (n lots : ℕ
         numbers = law.sound.combination_numbers;
         sound = law.sound.combinations;
         engaged_most = λ k q h. omega (arith, engaged_still k, law.sound.engaged_most k q h);
-        legs = legs_left m l b law n lots o part;
+        legs = legs_left law part;
         held = omega (arith, law.beside.held, sums, free, s.funds.3 ∙ ap (λ z. out * leg_margin_of m z) is, s.funds.4 ∙ ap (λ z. come * leg_margin_of m z) is);
-        reserved = omega (arith, reserves_left m l b law n lots o part, s.funds.2);
+        reserved = omega (arith, reserves_left law part, s.funds.2);
         written_most = at_one (λ x y. written x y ≤ l.written x y + opens_written x y gone o.kind) a c (omega (arith, W, ws.opened)) (λ x y far. omega (arith, ws.else x y far));
         bought_most = at_one (λ x y. bought x y ≤ l.bought x y + opens_bought x y gone o.kind) a c (omega (arith, B, bs.opened)) (λ x y far. omega (arith, bs.else x y far));
       })
@@ -144,7 +144,7 @@ module _ (m : Meaning) (l : Ledger) (b : Tables) (law : Law m l b) (n lots : ℕ
       Law m (left l n lots o l.came_in l.went_out l.bought l.written l.combinations) (left_tables b n lots o b.positions cr (filled_funds (returned x) b.funds))
   still_keeps x cr reserve_is closes_none found apart =
       let l' : Ledger = left l n lots o l.came_in l.went_out l.bought l.written l.combinations in
-      left_keeps m l b law n lots o part (returned x) l.came_in l.went_out l.bought l.written l.combinations b.positions cr (record {
+      left_keeps law part (returned x) l.came_in l.went_out l.bought l.written l.combinations b.positions cr (record {
         covered = omega arith;
         came_is = omega arith;
         went_is = omega arith;
@@ -153,17 +153,17 @@ module _ (m : Meaning) (l : Ledger) (b : Tables) (law : Law m l b) (n lots : ℕ
         lots_are = all_alike l l' b law.beside.lots (λ i j. record {
           bought = refl;
           written = refl;
-          claimed_bought = omega (arith, closes_bought_left m l b law n lots o part i j, (closes_none i j).1);
-          claimed_written = omega (arith, closes_written_left m l b law n lots o part i j, (closes_none i j).0);
+          claimed_bought = omega (arith, closes_bought_left law part i j, (closes_none i j).1);
+          claimed_written = omega (arith, closes_written_left law part i j, (closes_none i j).0);
         });
         combinations = found;
         apart = apart;
         numbers = law.sound.combination_numbers;
         sound = law.sound.combinations;
-        engaged_most = λ k q h. omega (arith, engaged_left m l b law n lots o part k, law.sound.engaged_most k q h);
-        legs = legs_left m l b law n lots o part;
+        engaged_most = λ k q h. omega (arith, engaged_left law part k, law.sound.engaged_most k q h);
+        legs = legs_left law part;
         held = omega (arith, law.beside.held);
-        reserved = omega (arith, reserves_left m l b law n lots o part, reserve_is);
+        reserved = omega (arith, reserves_left law part, reserve_is);
         written_most = λ i j. omega arith;
         bought_most = λ i j. omega arith;
       })

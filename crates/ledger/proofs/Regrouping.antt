@@ -40,7 +40,7 @@ pub record Regrouped (m : Meaning) (l l' : Ledger) (b b' : Tables) (back taken :
   pub held : margin_held m (contracts_of b) l' + back ≡ margin_held m (contracts_of b) l + taken
   pub enough : taken - back ≤ b.funds.balance
 
-module _ (m : Meaning) (l : Ledger) (b : Tables) (law : Law m l b) (es : List (Entry Pairing)) (next : ℕ) (ps : List Position) (cr : List (Row Combination)) (next_row : Series) (back taken : ℕ) where
+module _ {m : Meaning} {l : Ledger} {b : Tables} (law : Law m l b) (es : List (Entry Pairing)) (next : ℕ) (ps : List Position) (cr : List (Row Combination)) (next_row : Series) (back taken : ℕ) where
   abbrev l' : Ledger
   l' = regrouped es next l
 

@@ -24,7 +24,7 @@ use Rattle.ledger.proofs.Legs.{rest_sum, rest_numbers, rest_apart, rest_rows, re
 use Rattle.ledger.proofs.Claims.{TwoLegs, two_legs, held_between, first_unlocked}
 use Rattle.ledger.proofs.Regrouping.{regrouped, regrouped_keeps}
 
-module _ (m : Meaning) (l : Ledger) (b : Tables) (law : Law m l b) (n lots : ℕ) (p : Pairing) (stands : under l.combinations n ≡ Some p) (some : 1 ≤ lots) (free : lots ≤ p.lots - engaged l n)
+module _ {m : Meaning} {l : Ledger} {b : Tables} (law : Law m l b) (n lots : ℕ) (p : Pairing) (stands : under l.combinations n ≡ Some p) (some : 1 ≤ lots) (free : lots ≤ p.lots - engaged l n)
     (enough : lots * legs_per_lot m (contracts_of b) p.strategy p.first p.second - lots * pair_per_lot m (contracts_of b) p.strategy p.first p.second ≤ b.funds.balance) where
   abbrev cs : List Contract
   cs = contracts_of b
@@ -95,7 +95,7 @@ module _ (m : Meaning) (l : Ledger) (b : Tables) (law : Law m l b) (n lots : ℕ
       (λ x y nf ns. record { bought = refl; written = refl; claimed_bought = omega (arith, less_bought x y, two.bought_else x y nf); claimed_written = omega (arith, less_written x y, two.written_else x y nf ns) })
 
   pub ungrouped_keeps : Law m l' (released m b n lots (combination_with (engaged l n) p))
-  ungrouped_keeps = regrouped_keeps m l b law es l.next_combination unlocked.positions (combination_rest n lots 0 (combination_with (engaged l n) p) b.combinations) b.combination_series _ _ (record {
+  ungrouped_keeps = regrouped_keeps law es l.next_combination unlocked.positions (combination_rest n lots 0 (combination_with (engaged l n) p) b.combinations) b.combination_series _ _ (record {
     rows = length-set _ _ _ ∙ length-set _ _ _ ∙ law.sound.position_rows;
     lots = unlocked_lots;
     found = λ j. rest_rows law n lots p stands 0 j (engaged l j) (grind (arith, nat_tests));
@@ -124,5 +124,5 @@ release_stays m b n lots x after h l law =
       standing_at (λ (z : Pairing). lots ≤ z.lots) q.1 (omega arith),
       subst (λ z. Law m (combination_less n lots z l) after) (sym q.1)
           (subst (λ z. Law m (combination_less n lots (Some p) l) z) (sym taken.0)
-          (ungrouped_keeps m l b law n lots p q.1 (within 1 1000 lots u.0).0 few (ltb-false _ _ enough))),
+          (ungrouped_keeps law n lots p q.1 (within 1 1000 lots u.0).0 few (ltb-false _ _ enough))),
     )

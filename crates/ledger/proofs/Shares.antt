@@ -1,20 +1,17 @@
 -- Some lots of an order gone: what stands, and what the sums that go by lots come to.
-use Rattle.std.proofs.Common.{◌≡◌, ℕ, ◌+◌, ◌-◌, ◌*◌, ◌<◌, ◌≤◌, leb, ◌⊎◌, List, Some, None, sym, refl, ap, ◌∙◌, add-mul, arith}
+use Rattle.std.proofs.Common.{◌≡◌, ℕ, ◌+◌, ◌-◌, ◌*◌, ◌≤◌, List, None, sym, refl, ap, ◌∙◌, add-mul, arith}
 use Rattle.std.proofs.lemmas.Bool.Decides.{nat_tests}
 use Rattle.std.proofs.lemmas.Bool.{le-leb, cond-true}
 use Rattle.register.specs.declared.row.Row.{Row}
-use Rattle.register.specs.Rows.{lookup, removed}
+use Rattle.register.specs.Rows.{removed}
 use Rattle.ledger.specs.declared.order.Order.{Order}
 use Rattle.ledger.specs.declared.order.OrderKind.{OrderKind}
 use Rattle.ledger.specs.declared.order.OrderKind.TheVariants.{LegClose}
-use Rattle.ledger.specs.Ledger.{Entry, under, put, order_less}
+use Rattle.ledger.specs.Ledger.{order_less}
 use Rattle.ledger.specs.Content.{contract_of}
 use Rattle.ledger.specs.Law.{closes_written, closes_bought, engages}
 use Rattle.ledger.specs.Moves.{order_rest}
-use Rattle.ledger.specs.OrderRules.{working_sum, opens_written, opens_bought}
-use Rattle.ledger.specs.Runs.{Numbers}
-use Rattle.ledger.proofs.Entries.{weighed}
-use Rattle.ledger.proofs.Lessened.{less_weight, weighed_lessened, lessened_parts, in_use_rest}
+use Rattle.ledger.specs.OrderRules.{opens_written, opens_bought}
 
 pub split_mul : (n k r : ℕ) → k ≤ n → (n - k) * r + k * r ≡ n * r
 split_mul n k r h = sym (add-mul (n - k) k r) ∙ ap (λ x. x * r) (omega arith)
@@ -31,24 +28,12 @@ of_lots k o = record o { lots = k }
 abbrev pub ByLots : (Order → ℕ) → Type 0
 ByLots g = (o : Order) (k : ℕ) → k ≤ o.lots → g (of_lots (o.lots - k) o) + g (of_lots k o) ≡ g o
 
-pub weighed_less : (g : Order → ℕ) → ByLots g → (es : List (Entry Order)) (n lots : ℕ) (o : Order) → under es n ≡ Some o → lots ≤ o.lots → weighed g (put n (order_less lots o) es) + g (of_lots lots o) ≡ weighed g es
-weighed_less g by es n lots o p h = weighed_lessened (λ (x : Order). x.lots) of_lots (λ x. refl) g by es n lots o p h
-
-pub standing_rest : (g : Order → ℕ) → ByLots g → (rows : List (Row Order)) (n lots : ℕ) (o : Order) → lookup rows n ≡ Some o → lots ≤ o.lots → working_sum (order_rest n lots o rows) g + g (of_lots lots o) ≡ working_sum rows g
-standing_rest g by rows n lots o p h =
-    omega (arith, in_use_rest (leb o.lots lots) g rows n (of_lots (o.lots - lots) o) o p, less_weight (λ (x : Order). x.lots) of_lots (λ x. refl) g by lots o h)
-
 -- a cancelled order is one of which all lots are gone
 pub all_gone : (o : Order) → order_less o.lots o ≡ None
 all_gone o = cond-true _ _ _ (le-leb o.lots o.lots (omega arith))
 
 pub all_freed : (rows : List (Row Order)) (n : ℕ) (o : Order) → order_rest n o.lots o rows ≡ removed rows n
 all_freed rows n o = cond-true _ _ _ (le-leb o.lots o.lots (omega arith))
-
--- what stands after: the rest of the order, or another that stood
-pub less_parts : (es : List (Entry Order)) (next n lots k : ℕ) (o x : Order) → Numbers es next → under es n ≡ Some o → under (put n (order_less lots o) es) k ≡ Some x →
-    ((n ≡ k) × (lots < o.lots) × (x ≡ of_lots (o.lots - lots) o)) ⊎ ((n ≡ k → ⊥) × (under es k ≡ Some x))
-less_parts es next n lots k o x s p q = lessened_parts (λ (y : Order). y.lots) of_lots (λ y. refl) es next n lots k o x s p q
 
 -- What an order claims, opens and engages ---------------------------------------------------------
 
