@@ -1,5 +1,5 @@
 -- What a call by its rule answers and leaves: refused, the tables as they were; accepted, tables of the same contracts, and their balance.
-use Rattle.std.proofs.Common.{◌≡◌, ℕ, eqb, Some, None, Ok, Err, Option, sym, refl, ap, ◌∙◌}
+use Rattle.std.proofs.Common.{◌≡◌, ℕ, eqb, Some, None, Ok, Err, Option, refl, ap, ◌∙◌, arith}
 use Rattle.std.proofs.lemmas.Bool.{cond_both}
 use Rattle.register.specs.Rows.{lookup}
 use Rattle.margin.specs.Meaning.{Meaning}
@@ -17,7 +17,7 @@ use Rattle.ledger.specs.CombinationRules.{CombinedAs}
 use Rattle.ledger.specs.FillRules.{traded, leg_traded, freed, disengaged}
 use Rattle.ledger.specs.Keeps.{BalanceAnswered}
 use Rattle.ledger.specs.Runs.{ByTheRules}
-use Rattle.ledger.specs.Tests.{Answer, Standing, answers}
+use Rattle.ledger.specs.Tests.{Standing, answers}
 
 pub refused : (m : Meaning) (b : Tables) (c : Call) (e : Refusal) (after : Tables) → ByTheRules m b c (Err e) after → after ≡ b
 refused m b (call.Deposit amount) e after h = h.1
@@ -62,9 +62,6 @@ told m b c x after h = (_, _, h.1.1.1, refl)
 pub same_contracts : (m : Meaning) (b : Tables) (c : Call) (x : ℕ × ℕ) (after : Tables) → ByTheRules m b c (Ok x) after → contracts_of after ≡ contracts_of b
 same_contracts m b c x after h = let t = told m b c x after h in ap contracts_of t.2.0 ∙ t.3
 
-ok_same : {p q : ℕ × ℕ} → ◌≡◌ {A = Answer} (Ok p) (Ok q) → p ≡ q
-ok_same e = cc
-
 pub balance_answered : BalanceAnswered
 balance_answered m b c x after h =
-    let t = told m b c x after h in ap (λ (y : ℕ × ℕ). y.1) (ok_same t.2.1) ∙ sym (ap (λ (z : Tables). z.funds.balance) t.2.0)
+    let t = told m b c x after h in let left = t.2.0 in let answer = t.2.1 in grind arith

@@ -1,5 +1,5 @@
 -- What a fill brings back covers what it pays and takes, at any price within the order's limit.
-use Rattle.std.proofs.Common.{◌≡◌, ℕ, ◌+◌, ◌-◌, ◌*◌, ◌≤◌, false, cond, ltb, Some, None, Option, mul-le-mul_right, mul-le-mul_left, mul-add, arith}
+use Rattle.std.proofs.Common.{◌≡◌, ℕ, ◌+◌, ◌-◌, ◌*◌, ◌≤◌, false, cond, ltb, Some, None, Option, mul-le-mul_left, arith}
 use Rattle.std.proofs.lemmas.Bool.{le-ltb, ltb-false}
 use Rattle.register.specs.Rows.{lookup}
 use Rattle.ledger.specs.declared.order.Combination.{Combination}
@@ -16,16 +16,13 @@ use Rattle.ledger.specs.Keeps.{FillNeverShort}
 use Rattle.ledger.specs.Amounts.{pair_per_lot}
 
 pub times_within : (lots price limit unit : ℕ) → price ≤ limit → lots * price * unit ≤ lots * (limit * unit)
-times_within lots price limit unit h =
-    let one : lots * price ≤ lots * limit = mul-le-mul_left lots h in
-    let two : lots * price * unit ≤ lots * limit * unit = mul-le-mul_right unit one in
-    omega arith
+times_within lots price limit unit h = omega (arith, mul-le-mul_left (lots * unit) h)
 
 -- at a leg close
 pub covers : (lots price limit unit other pair : ℕ) → price ≤ limit → lots * price * unit + lots * other ≤ lots * ((other + limit * unit) - pair) + 0 + lots * pair
 covers lots price limit unit other pair h =
     let whole : lots * (other + limit * unit) ≤ lots * (((other + limit * unit) - pair) + pair) = mul-le-mul_left lots (omega arith) in
-    omega (arith, whole, mul-add lots other (limit * unit), mul-add lots ((other + limit * unit) - pair) pair, times_within lots price limit unit h)
+    omega (arith, whole, times_within lots price limit unit h)
 
 -- what comes back and is received
 abbrev pub Covers : Flow → Type 0

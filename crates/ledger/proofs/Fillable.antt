@@ -1,6 +1,6 @@
 -- What a fill takes is owned.
-use Rattle.std.proofs.Common.{◌≡◌, ℕ, ◌≤◌, cond, eqb, Some, refl, subst, ⊎_elim, arith}
-use Rattle.std.proofs.lemmas.Bool.{cond-true, eq-eqb}
+use Rattle.std.proofs.Common.{◌≡◌, ℕ, ◌≤◌, cond, eqb, Some, arith}
+use Rattle.std.proofs.lemmas.Bool.Decides.{nat_tests}
 use Rattle.ledger.specs.declared.order.Order.{Order}
 use Rattle.ledger.specs.declared.order.OrderKind.{OrderKind}
 use Rattle.ledger.specs.declared.order.OrderKind.TheVariants.{BuyClose, SellClose, LegClose}
@@ -9,12 +9,11 @@ use Rattle.margin.specs.Meaning.{Meaning}
 use Rattle.ledger.specs.Ledger.{Ledger, under}
 use Rattle.ledger.specs.Content.{Pairing, contract_of}
 use Rattle.ledger.specs.Law.{Lots, contracts_of, position_of, engages, closes_written, closes_bought, written_claim}
-use Rattle.ledger.specs.Runs.{Law, Fillable, LegOf, SoundOrder, SoundCombination}
+use Rattle.ledger.specs.Runs.{Law, Fillable, LegOf, SoundOrder}
 use Rattle.ledger.proofs.Codes.{one_here}
 use Rattle.ledger.proofs.Entries.{weighed_part}
 use Rattle.ledger.proofs.Tests.{standing_at}
-use Rattle.ledger.proofs.Pairings.{leg_parts}
-use Rattle.ledger.proofs.Claims.{two_legs}
+use Rattle.ledger.proofs.Pairings.{legs_apart}
 
 module _ {m : Meaning} {l : Ledger} {b : Tables} (law : Law m l b) where
   module _ (n lots : ℕ) where
@@ -36,19 +35,15 @@ module _ {m : Meaning} {l : Ledger} {b : Tables} (law : Law m l b) where
     fillable (SellClose c) a whole limit stands within = omega (arith, (closes_owned (made a (SellClose c) whole limit) stands).1, one_here a c whole 0)
     fillable (LegClose k c) a whole limit stands within =
         let o : Order = made a (LegClose k c) whole limit in
-        let g : LegOf l.combinations a k c = (law.sound.orders n o stands).leg in
+        let fit : SoundOrder (contracts_of b) l.combinations o = law.sound.orders n o stands in
+        let g : LegOf l.combinations a k c = fit.leg in
         let p : Pairing = g.combination in
-        let sound : SoundCombination (contracts_of b) p = law.sound.combinations k p g.stands in
-        let two = two_legs (contracts_of b) p p.lots sound.fitted in
-        let here : cond (eqb k k) whole 0 ≡ whole = cond-true _ _ _ (eq-eqb k k refl) in
+        let lot : Lots l a c (position_of b a c) = law.beside.lots a c fit.contract.0 fit.account.0 fit.account.1 fit.contract.1 in
+        let apart = legs_apart (contracts_of b) p (law.sound.combinations k p g.stands).fitted in
+        let account = g.account in
+        let leg = g.leg in
+        let claim : written_claim a c p ≡ p.lots = grind (arith, nat_tests) in
+        let here : cond (eqb k k) whole 0 ≡ whole = grind (arith, nat_tests) in
         let few : lots ≤ p.lots = omega (arith, here, weighed_part (λ z. engages k z z.kind) l.orders n o stands, law.sound.engaged_most k p g.stands) in
-        let owned : lots ≤ l.written p.account c = ⊎_elim
-        (λ e. subst (λ z. lots ≤ l.written p.account z) e
-        (let lot : Lots l p.account p.second (position_of b p.account p.second) = law.beside.lots p.account p.second sound.fitted.second sound.account.0 sound.account.1 sound.fitted.second_listed in
-        omega (arith, few, lot.written_free, two.written_second, weighed_part (written_claim p.account p.second) l.combinations k p g.stands)))
-        (λ e. subst (λ z. lots ≤ l.written p.account z) e.1
-        (let lot : Lots l p.account p.first (position_of b p.account p.first) = law.beside.lots p.account p.first sound.fitted.first sound.account.0 sound.account.1 sound.fitted.first_listed in
-        omega (arith, few, lot.written_free, two.written_first, cond-true _ p.lots 0 e.0, weighed_part (written_claim p.account p.first) l.combinations k p g.stands)))
-        (leg_parts p c g.leg) in
-        (subst (λ z. lots ≤ l.written z c) g.account owned, standing_at (λ (z : Pairing). lots ≤ z.lots) g.stands few)
+        (omega (arith, few, claim, lot.written_free, weighed_part (written_claim a c) l.combinations k p g.stands), standing_at (λ (z : Pairing). lots ≤ z.lots) g.stands few)
     fillable kind a whole limit stands within = tt

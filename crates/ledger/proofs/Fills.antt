@@ -1,9 +1,9 @@
 -- Fill and cancel keep the law.
 use Rattle.std.proofs.Common.{◌≡◌, ℕ, ◌+◌, ◌-◌, ◌*◌, ◌^◌, ◌≤◌, false, cond, ◌&&◌, eqb, ltb, List, [], ◌∷◌, Some, None, Option, sym, refl, ap, ◌∙◌, subst, arith}
 use Rattle.std.proofs.lemmas.Bool.Decides.{nat_tests}
-use Rattle.std.proofs.lemmas.Bool.{ltb-false}
+use Rattle.std.proofs.lemmas.Bool.{le-leb, ltb-false}
 use Rattle.register.specs.declared.row.Row.{Row}
-use Rattle.register.specs.Rows.{lookup, changed}
+use Rattle.register.specs.Rows.{lookup, changed, removed}
 use Rattle.register.proofs.After.{apart_changed}
 use Rattle.ledger.specs.declared.call.Call.TheVariants as call
 use Rattle.ledger.specs.declared.order.Order.{Order}
@@ -22,7 +22,7 @@ use Rattle.ledger.specs.FillRules.{traded, leg_traded, freed, disengaged, reserv
 use Rattle.ledger.specs.Moves.{order_rest, orders_to, funds_to, combinations_to, combination_rest, at, writing, buying, closing_bought, closing_written, unlocking_bought, unlocking_written}
 use Rattle.ledger.specs.Runs.{Law, LegOf, Fillable}
 use Rattle.ledger.proofs.Tests.{Stays, standing_at, unmet, stands_as, unmet_at}
-use Rattle.ledger.proofs.Shares.{all_gone, all_freed}
+use Rattle.ledger.proofs.Shares.{of_lots}
 use Rattle.ledger.proofs.Codes.{one_here}
 use Rattle.ledger.proofs.Covered.{flow_covered}
 use Rattle.ledger.proofs.Leaving.{left, left_tables, Part, engaged_left}
@@ -180,11 +180,9 @@ cancel_stays m b n x after h l law =
     let q = order_at law n u.0 in
     let z : Order = q.0 in
     let taken' = stands_as _ q.2 h.1 in
-    let law' : Law m (ledger_orders_to (put n (order_less z.lots z) l.orders) l) (cancelled_then law n z (order_rest n z.lots z b.orders))
-    = cancelled_as law n z.kind z.account z.lots z.limit (record { stands = q.1; within = omega arith }) in
-    let law₂ : Law m (ledger_orders_to (put n None l.orders) l) (cancelled_then law n z (order_rest n z.lots z b.orders))
-    = subst (λ w. Law m (ledger_orders_to (put n w l.orders) l) (cancelled_then law n z (order_rest n z.lots z b.orders))) (all_gone z) law' in (
+    let none_left : Order = of_lots (z.lots - z.lots) z in
+    let law' = cancelled_as law n z.kind z.account z.lots z.limit (record { stands = q.1; within = omega arith }) in (
       (z, q.1),
       subst (λ w. Law m (ledger_orders_to (put n None l.orders) l) w) (sym taken'.0)
-          (subst (λ w. Law m (ledger_orders_to (put n None l.orders) l) (cancelled_then law n z w)) (all_freed b.orders n z) law₂),
+          (subst (λ t. Law m (ledger_orders_to (put n (cond t None (Some none_left)) l.orders) l) (cancelled_then law n z (cond t (removed b.orders n) (changed b.orders n none_left)))) (le-leb z.lots z.lots (omega arith)) law'),
     )

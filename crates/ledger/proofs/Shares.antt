@@ -1,16 +1,11 @@
 -- Some lots of an order gone: what stands, and what the sums that go by lots come to.
-use Rattle.std.proofs.Common.{◌≡◌, ℕ, ◌+◌, ◌-◌, ◌*◌, ◌≤◌, List, None, sym, refl, ap, ◌∙◌, add-mul, arith}
+use Rattle.std.proofs.Common.{◌≡◌, ℕ, ◌+◌, ◌-◌, ◌*◌, ◌≤◌, sym, refl, ap, ◌∙◌, add-mul, arith}
 use Rattle.std.proofs.lemmas.Bool.Decides.{nat_tests}
-use Rattle.std.proofs.lemmas.Bool.{le-leb, cond-true}
-use Rattle.register.specs.declared.row.Row.{Row}
-use Rattle.register.specs.Rows.{removed}
 use Rattle.ledger.specs.declared.order.Order.{Order}
 use Rattle.ledger.specs.declared.order.OrderKind.{OrderKind}
 use Rattle.ledger.specs.declared.order.OrderKind.TheVariants.{LegClose}
-use Rattle.ledger.specs.Ledger.{order_less}
 use Rattle.ledger.specs.Content.{contract_of}
 use Rattle.ledger.specs.Law.{closes_written, closes_bought, engages}
-use Rattle.ledger.specs.Moves.{order_rest}
 use Rattle.ledger.specs.OrderRules.{opens_written, opens_bought}
 
 pub split_mul : (n k r : ℕ) → k ≤ n → (n - k) * r + k * r ≡ n * r
@@ -27,13 +22,6 @@ of_lots k o = record o { lots = k }
 -- a weight of orders that goes by lots
 abbrev pub ByLots : (Order → ℕ) → Type 0
 ByLots g = (o : Order) (k : ℕ) → k ≤ o.lots → g (of_lots (o.lots - k) o) + g (of_lots k o) ≡ g o
-
--- a cancelled order is one of which all lots are gone
-pub all_gone : (o : Order) → order_less o.lots o ≡ None
-all_gone o = cond-true _ _ _ (le-leb o.lots o.lots (omega arith))
-
-pub all_freed : (rows : List (Row Order)) (n : ℕ) (o : Order) → order_rest n o.lots o rows ≡ removed rows n
-all_freed rows n o = cond-true _ _ _ (le-leb o.lots o.lots (omega arith))
 
 -- What an order claims, opens and engages ---------------------------------------------------------
 

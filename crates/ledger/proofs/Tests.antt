@@ -8,9 +8,6 @@ use Rattle.ledger.specs.Runs.{ByTheRules}
 use Rattle.ledger.specs.Keeps.{KeptBy}
 use Rattle.ledger.specs.Tests.{first_met, outside, is_none, Standing, meets}
 
-none_met : (n : ℕ) (t : Bool) (xs : List (ℕ × Bool)) → first_met ((n, t) ∷ xs) ≡ None → (t ≡ false) × (first_met xs ≡ None)
-none_met n t xs p = grind arith
-
 -- no test is met, one by one
 abbrev pub Unmet : List (ℕ × Bool) → Type 0
 Unmet [] = Unit {0}
@@ -18,7 +15,7 @@ Unmet (x ∷ xs) = (x.1 ≡ false) × Unmet xs
 
 pub unmet : (tests : List (ℕ × Bool)) → first_met tests ≡ None → Unmet tests
 unmet [] p = tt
-unmet (x ∷ xs) p = let q = none_met x.0 x.1 xs p in (q.0, unmet xs q.1)
+unmet (x ∷ xs) p = (grind arith, unmet xs (grind arith))
 
 pub all_unmet : (tests : List (ℕ × Bool)) → Unmet tests → first_met tests ≡ None
 all_unmet [] u = refl
