@@ -1,4 +1,4 @@
--- Some lots of a combination gone: what stands, and what the sums that go by lots come to. And the legs of a combination.
+-- Combinations and their rows: what goes by lots, the legs, and what a book and its ledger have under a number.
 use Rattle.std.proofs.Common.{◌≡◌, ℕ, ◌+◌, ◌-◌, ◌*◌, ◌≤◌, cond, eqb, true, false, ◌&&◌, ltb, ◌⊎◌, List, Some, None, Option, sym, refl, ap, ◌∙◌, subst, arith}
 use Rattle.std.proofs.lemmas.Bool.Decides.{nat_tests}
 use Rattle.std.proofs.lemmas.Bool.{le-ltb, both_ways, and_parts}

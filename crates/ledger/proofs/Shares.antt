@@ -1,4 +1,4 @@
--- Some lots of an order gone: what stands, and what the sums that go by lots come to.
+-- What an order claims, opens and engages: it goes by lots, and is at its account and contract alone. And products that go by lots.
 use Rattle.std.proofs.Common.{◌≡◌, ℕ, ◌+◌, ◌-◌, ◌*◌, ◌≤◌, sym, refl, ap, ◌∙◌, add-mul, arith}
 use Rattle.std.proofs.lemmas.Bool.Decides.{nat_tests}
 use Rattle.ledger.specs.declared.order.Order.{Order}
@@ -14,8 +14,6 @@ split_mul n k r h = sym (add-mul (n - k) k r) ∙ ap (λ x. x * r) (omega arith)
 pub times_both : (p i q j r : ℕ) → p + i ≡ q + j → r * p + r * i ≡ r * q + r * j
 times_both p i q j r e = omega (arith, ap (λ z. r * z) e)
 
--- Orders ----------------------------------------------------------------------------------------
-
 abbrev pub of_lots : ℕ → Order → Order
 of_lots k o = record o { lots = k }
 
@@ -23,9 +21,7 @@ of_lots k o = record o { lots = k }
 abbrev pub ByLots : (Order → ℕ) → Type 0
 ByLots g = (o : Order) (k : ℕ) → k ≤ o.lots → g (of_lots (o.lots - k) o) + g (of_lots k o) ≡ g o
 
--- What an order claims, opens and engages ---------------------------------------------------------
-
--- it goes by lots
+-- what an order claims, opens and engages goes by lots
 abbrev pub Splits : (Order → OrderKind → ℕ) → Order → ℕ → OrderKind → Type 0
 Splits f o k kind = f (of_lots (o.lots - k) o) kind + f (of_lots k o) kind ≡ f o kind
 

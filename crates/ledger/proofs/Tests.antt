@@ -1,4 +1,4 @@
--- The tests of the rules, where none is met.
+-- The tests of the rules, where none is met; and what is shown of each call.
 use Rattle.std.proofs.Common.{◌≡◌, ℕ, ◌≤◌, Bool, true, false, List, [], ◌∷◌, ◌++◌, Some, None, Ok, Option, sym, refl, subst, arith}
 use Rattle.std.proofs.lemmas.Bool.Decides.{nat_tests}
 use Rattle.ledger.specs.declared.call.Call.{Call}
