@@ -5,4 +5,4 @@ mod Handed
 mod Listings
 mod Files
 mod Telling
-mod Calling
+pub mod Calling

@@ -22,6 +22,9 @@ extent bytes s = value bytes (column (length_place s) 4)
 abbrev pub end_of : List ℕ → Section → ℕ
 end_of bytes s = start bytes s + extent bytes s
 
+abbrev pub section_part : List ℕ → Section → List ℕ
+section_part bytes s = part bytes (start bytes s) (extent bytes s)
+
 -- Settings are one record of 20 bytes; contracts of 32 bytes and calls of 24 are counted from 0.
 abbrev pub settings_part : List ℕ → List ℕ
 settings_part bytes = part bytes (start bytes Settings) 20

@@ -1,18 +1,21 @@
 // The contracts of a day, each judged as it is listed.
-ghost use Rattle.std.specs.Prelude.{◌≡◌, ℕ, ◌+◌, ◌*◌, ◌^◌, ◌<◌, ◌≤◌, [], ◌∷◌, ◌++◌, length, IfOk, OnOk};
+ghost use Rattle.std.specs.Prelude.{◌≡◌, ℕ, List, ◌+◌, ◌<◌, ◌≤◌, [], ◌∷◌, ◌++◌, length, IfOk, OnOk};
 ghost use Rattle.margin.specs.Terms.{terms_of};
 ghost use Rattle.margin.specs.Listing.{listed, listed_terms};
 ghost use Rattle.dayfile.specs.declared.fault.Section.TheVariants.{Contracts as IsContracts};
-ghost use Rattle.dayfile.specs.Faults.{Passed, SectionPassed, section_number, first as first_fault};
+ghost use Rattle.dayfile.specs.Faults.{Passed, section_number, first as first_fault};
 ghost use Rattle.dayfile.specs.Fields.{fields_fault, Kept};
 ghost use Rattle.dayfile.specs.Layout.{contract_fields};
 ghost use Rattle.dayfile.specs.Records.{terms_in};
-ghost use Rattle.dayfile.specs.Format.{start as start_of_lem, day_of, listing_fault, contract_fault, first_below, terms};
+ghost use Rattle.dayfile.specs.Format.{day_of, listing_fault};
+ghost use Rattle.dayfile.specs.Located.{SpanOf, ListedFrom};
 
-use crate::fault::{Breach, RecordFault, Section, SectionFault};
+use crate::bytes::read;
+use crate::fault::{Breach, RecordFault, SectionFault};
 use crate::field::{Column, Field};
-use crate::record::{Reader, Record, read};
+use crate::record::{Record, Span};
 use crate::sections::CONTRACT;
+use ledger::settings::Settings;
 use margin::contract::{Contract, Kind, Right};
 use margin::listing::{Listing, ListingFault};
 
@@ -83,20 +86,21 @@ fn contract_in(bytes: &[u8], day: u16) -> Contract
     }
 }
 
-fn contract(source: &Record, day: u16) -> Result<Contract, RecordFault>
-    requires whole { length source.now.bytes.now ≡ 32 }
-    requires here { source.now.place + 32 < 2 ^ 64 }
-    requires day { 1 ≤ day }
-    ensures fault { Passed (fields_fault source.now.bytes.now (section_number source.now.section) source.now.ordinal source.now.place (contract_fields day)) result }
+fn contract(source: &Record<CONTRACT>, settings: &Settings) -> Result<Contract, RecordFault>
+    ensures fault { Passed (fields_fault source.now.bytes.now (section_number source.now.section) source.now.ordinal source.now.place (contract_fields settings.now.day)) result }
     ensures said { IfOk result (λ c. terms_of c ≡ terms_in source.now.bytes.now) }
 {
+    let day = settings.day;
     source.check(&fields(day))?;
     Ok(contract_in(source.bytes, day))
 }
 
 // Lists the contract of a record behind the others.
-fn list(source: &Record, contract: Contract, listing: &mut Listing) -> Result<(), RecordFault>
-    requires here { source.now.place + 32 < 2 ^ 64 }
+fn list(
+    source: &Record<CONTRACT>,
+    contract: Contract,
+    listing: &mut Listing,
+) -> Result<(), RecordFault>
     requires section { source.now.section ≡ IsContracts }
     requires room { length (listed listing.old) < 64 }
     ensures fault { Passed (listing_fault (listed_terms listing.old) (terms_of contract) source.now.ordinal source.now.place) result }
@@ -114,45 +118,34 @@ fn list(source: &Record, contract: Contract, listing: &mut Listing) -> Result<()
 }
 
 // Judges a record that stands behind the listed contracts, and lists its contract.
-fn judge(source: &Record, day: u16, listing: &mut Listing) -> Result<(), RecordFault>
-    requires whole { length source.now.bytes.now ≡ 32 }
-    requires here { source.now.place + 32 < 2 ^ 64 }
+fn judge(
+    source: &Record<CONTRACT>,
+    settings: &Settings,
+    listing: &mut Listing,
+) -> Result<(), RecordFault>
     requires section { source.now.section ≡ IsContracts }
-    requires day { 1 ≤ day }
     requires room { length (listed listing.old) < 64 }
-    ensures fault { Passed (first_fault (fields_fault source.now.bytes.now 2 source.now.ordinal source.now.place (contract_fields day)) (listing_fault (listed_terms listing.old) (terms_in source.now.bytes.now) source.now.ordinal source.now.place)) result }
+    ensures fault { Passed (first_fault (fields_fault source.now.bytes.now 2 source.now.ordinal source.now.place (contract_fields settings.now.day)) (listing_fault (listed_terms listing.old) (terms_in source.now.bytes.now) source.now.ordinal source.now.place)) result }
     ensures joined { OnOk result (listed_terms listing.new ≡ listed_terms listing.old ++ terms_in source.now.bytes.now ∷ []) }
 {
-    let contract = contract(source, day)?;
+    let contract = contract(source, settings)?;
     list(source, contract, listing)
 }
 
-// The listing of a file whose contracts section starts at `start`.
-pub(crate) fn find(
-    bytes: &[u8],
-    start: usize,
-    count: usize,
-    day: u16,
-) -> Result<Listing, SectionFault>
-    requires is { start ≡ start_of_lem bytes.now IsContracts }
-    requires inside { start + 32 * count ≤ length bytes.now }
-    requires some { 1 ≤ count }
-    requires few { count ≤ 64 }
-    requires day { (1 ≤ day) × (day ≡ day_of bytes.now) }
-    ensures fault { SectionPassed (first_below count (contract_fault bytes.now)) result }
-    ensures said { IfOk result (λ l. listed_terms l ≡ terms bytes.now count) }
+// The listing of a file whose contracts section this is.
+pub(crate) fn find(span: &Span, settings: &Settings) -> Result<Listing, SectionFault>
+    requires section { span.now.section ≡ IsContracts }
+    requires some { 32 ≤ length span.now.bytes.now }
+    requires few { length span.now.bytes.now ≤ 2048 }
+    ensures { (bytes : List ℕ) → SpanOf bytes IsContracts span.now → settings.now.day ≡ day_of bytes → ListedFrom bytes result }
 {
-    let mut reader = Reader {
-        bytes,
-        section: Section::Contracts,
-        passed: 0,
-        place: start,
+    let mut records = span.records::<CONTRACT>();
+    let Some(first) = records.next() else {
+        unreachable()
     };
-    let first = reader.next(CONTRACT);
-    let mut listing = Listing::of(contract(&first, day)?);
-    for k in 1..count {
-        let found = reader.next(CONTRACT);
-        judge(&found, day, &mut listing)?;
+    let mut listing = Listing::of(contract(&first, settings)?);
+    for found in records {
+        judge(&found, settings, &mut listing)?;
     }
     Ok(listing)
 }

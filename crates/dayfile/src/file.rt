@@ -1,5 +1,5 @@
-// What a sound day file says: its settings, its listing, and where its calls stand.
-ghost use Rattle.std.specs.Prelude.{◌+◌, ◌*◌, ◌≤◌};
+// What a sound day file says: its settings, its listing, and its calls.
+ghost use Rattle.dayfile.specs.Numbered.{Numbered};
 
 use ledger::settings::Settings;
 use margin::listing::Listing;
@@ -8,10 +8,16 @@ pub mod methods;
 
 // The calls are handed out from the bytes that the file was read from.
 #[derive(Clone, Copy)]
-pub struct DayFile {
+pub struct DayFile<'a> {
     settings: Settings,
     listing: Listing,
-    calls: usize,
-    call_count: usize,
-    ghost calls_inside: { calls + 24 * call_count ≤ 60000 },
+    calls: &'a [u8],
+    ghost numbered: { Numbered calls.now },
+}
+
+// The calls of a file that are not handed out yet.
+#[derive(Drop)]
+pub struct Calls<'a> {
+    rest: &'a [u8],
+    ghost numbered: { Numbered rest.now },
 }

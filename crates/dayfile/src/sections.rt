@@ -3,12 +3,13 @@ ghost use Rattle.std.specs.Prelude.{◌≡◌, ℕ, ◌+◌, ◌^◌, ◌<◌, �
 ghost use Rattle.dayfile.specs.Bytes.{value};
 ghost use Rattle.dayfile.specs.Layout.{column};
 ghost use Rattle.dayfile.specs.Faults.{SectionPassed, section_number, length_place};
-ghost use Rattle.dayfile.specs.Format.{start as start_of_lem, extent as extent_of, pair_fault, faulty, bad_length, sections_fault};
-ghost use Rattle.dayfile.specs.Located.{Located};
+ghost use Rattle.dayfile.specs.Format.{pair_fault, faulty, bad_length, sections_fault};
+ghost use Rattle.dayfile.specs.Located.{SpanOf, Located};
 
+use crate::bytes::read;
 use crate::fault::{Section, SectionFault};
 use crate::field::Column;
-use crate::record::read;
+use crate::record::Span;
 
 const PAIRS: usize = 24;
 
@@ -21,18 +22,10 @@ pub(crate) const CONTRACT: usize = 32;
 pub(crate) const CALL: usize = 24;
 
 #[derive(Clone, Copy)]
-struct Span {
-    start: usize,
-    extent: usize,
-}
-
-#[derive(Clone, Copy)]
-pub(crate) struct Sections {
-    pub(crate) settings: usize,
-    pub(crate) contracts: usize,
-    pub(crate) contract_count: usize,
-    pub(crate) calls: usize,
-    pub(crate) call_count: usize,
+pub(crate) struct Sections<'a> {
+    pub(crate) settings: Span<'a>,
+    pub(crate) contracts: Span<'a>,
+    pub(crate) calls: Span<'a>,
 }
 
 // The number that four bytes of the pairs are.
@@ -45,23 +38,29 @@ fn four(bytes: &[u8], at: usize) -> usize
 }
 
 // The span of a section; the section before it ends at `previous`.
-fn find(bytes: &[u8], section: Section, previous: usize) -> Result<Span, SectionFault>
-    requires { 24 ≤ length bytes.now }
+fn find(bytes: &[u8], section: Section, previous: usize) -> Result<Span<'_>, SectionFault>
+    requires low { 24 ≤ length bytes.now }
+    requires high { length bytes.now ≤ 60000 }
     ensures fault { SectionPassed (pair_fault bytes.now section previous) result }
-    ensures said { IfOk result (λ s. (s.start ≡ start_of_lem bytes.now section) × (s.extent ≡ extent_of bytes.now section) × (s.start + s.extent < 2 ^ 33)) }
+    ensures said { IfOk result (λ span. SpanOf bytes.now section span) }
 {
     let start = four(bytes, section.pair_place());
-    let extent = four(bytes, section.length_place());
-    if start < PAIRS || start < previous || start + extent > bytes.len() {
+    let end = start + four(bytes, section.length_place());
+    if start < PAIRS || start < previous || end > bytes.len() {
         return Err(SectionFault::Pair(section));
     }
-    Ok(Span { start, extent })
+    Ok(Span {
+        section,
+        bytes: &bytes[start..end],
+        place: start,
+    })
 }
 
-fn check_length(section: Section, extent: usize) -> Result<(), SectionFault>
-    ensures { SectionPassed (faulty (bad_length section extent) 3 (section_number section) 0 (length_place section)) result }
+fn check_length(span: &Span) -> Result<(), SectionFault>
+    ensures { SectionPassed (faulty (bad_length span.now.section (length span.now.bytes.now)) 3 (section_number span.now.section) 0 (length_place span.now.section)) result }
 {
-    let bad = match section {
+    let extent = span.bytes.len();
+    let bad = match span.section {
         Section::Settings => extent != SETTINGS,
         Section::Contracts => extent % CONTRACT != 0
             || extent < CONTRACT
@@ -69,28 +68,27 @@ fn check_length(section: Section, extent: usize) -> Result<(), SectionFault>
         Section::Calls => extent % CALL != 0,
     };
     if bad {
-        return Err(SectionFault::Length(section));
+        return Err(SectionFault::Length(span.section));
     }
     Ok(())
 }
 
 // The three pairs, and then the three lengths.
-pub(crate) fn locate(bytes: &[u8]) -> Result<Sections, SectionFault>
-    requires { 24 ≤ length bytes.now }
+pub(crate) fn locate(bytes: &[u8]) -> Result<Sections<'_>, SectionFault>
+    requires low { 24 ≤ length bytes.now }
+    requires high { length bytes.now ≤ 60000 }
     ensures fault { SectionPassed (sections_fault bytes.now) result }
     ensures said { IfOk result (λ s. Located bytes.now s) }
 {
     let settings = find(bytes, Section::Settings, 0)?;
-    let contracts = find(bytes, Section::Contracts, settings.start + settings.extent)?;
-    let calls = find(bytes, Section::Calls, contracts.start + contracts.extent)?;
-    check_length(Section::Settings, settings.extent)?;
-    check_length(Section::Contracts, contracts.extent)?;
-    check_length(Section::Calls, calls.extent)?;
+    let contracts = find(bytes, Section::Contracts, settings.end())?;
+    let calls = find(bytes, Section::Calls, contracts.end())?;
+    check_length(&settings)?;
+    check_length(&contracts)?;
+    check_length(&calls)?;
     Ok(Sections {
-        settings: settings.start,
-        contracts: contracts.start,
-        contract_count: contracts.extent / CONTRACT,
-        calls: calls.start,
-        call_count: calls.extent / CALL,
+        settings,
+        contracts,
+        calls,
     })
 }

@@ -43,24 +43,23 @@ pub answer_told : (m : Meaning) (b : Tables) (c : Call) (a : Answer) (outcome : 
 answer_told m b c (Ok x) outcome balance after by is same = rw is (ap (λ (n : ℕ). Ok (x.0, n)) (balance_answered m b c x after by ∙ sym same))
 answer_told m b c (Err e) outcome balance after by is same = rw is refl
 
--- the lines of the first k calls, on a book that was opened as `first` and is now at `now`
-pub record SoFar (m : Meaning) (s : Settings) (cs : List Contract) (bytes : List ℕ) (first : Tables) (k : ℕ) (lines : List CallLine) (now : Tables) : Type 0 where
+-- lines on a book that was opened as `first` and is now at `now`
+pub record SoFar (m : Meaning) (s : Settings) (cs : List Contract) (first : Tables) (lines : List CallLine) (now : Tables) : Type 0 where
   pub opened : Opened cs s.permitted s.opening s.first_number first
   pub at_opening : Law m (first_ledger s) first
-  pub calls : map place_and_call lines ≡ numbered_calls bytes k
   pub run : Run m first (events_of lines) now
   pub law : Law m (ledger_after cs lines (first_ledger s)) now
   pub contracts : contracts_of now ≡ cs
   pub balances : BalancesExplained m cs (first_ledger s) lines
 
-module _ (m : Meaning) (s : Settings) (cs : List Contract) (bytes : List ℕ) (first : Tables) where
-  pub none_told : Opened cs s.permitted s.opening s.first_number first → Law m (first_ledger s) first → SoFar m s cs bytes first 0 [] first
-  none_told opened law = record { opened = opened; at_opening = law; calls = refl; run = start; law = law; contracts = opened.contracts; balances = tt }
+module _ (m : Meaning) (s : Settings) (cs : List Contract) (first : Tables) where
+  pub none_told : Opened cs s.permitted s.opening s.first_number first → Law m (first_ledger s) first → SoFar m s cs first [] first
+  none_told opened law = record { opened = opened; at_opening = law; run = start; law = law; contracts = opened.contracts; balances = tt }
 
-  -- one line more, of the call at k
-  pub one_told : (k : ℕ) (lines : List CallLine) (line : CallLine) (now after : Tables) (c : Call) → c ≡ call_at bytes k → SoFar m s cs bytes first k lines now →
-      LineOf m now (k + 1) c line after → KeptBy m now c (answer_of line.outcome line.balance) after → SoFar m s cs bytes first (k + 1) (lines ++ line ∷ []) after
-  one_told k lines line now after c is so told kept =
+  -- one line more
+  pub one_told : (lines : List CallLine) (line : CallLine) (now after : Tables) (place : ℕ) (c : Call) → SoFar m s cs first lines now →
+      LineOf m now place c line after → KeptBy m now c (answer_of line.outcome line.balance) after → SoFar m s cs first (lines ++ line ∷ []) after
+  one_told lines line now after place c so told kept =
       let l = first_ledger s in
       let a = answer_of line.outcome line.balance in
       let before = ledger_after cs lines l in
@@ -70,7 +69,6 @@ module _ (m : Meaning) (s : Settings) (cs : List Contract) (bytes : List ℕ) (f
       record {
         opened = so.opened;
         at_opening = so.at_opening;
-        calls = rw (map-append, so.calls, told.place_is, told.call_is, is, add-one) refl;
         run = rw (map-append event_of lines (line ∷ [])) (run_on m first now after (events_of lines) (event_of line) so.run step);
         law = rw fold-append law;
         contracts = same;
@@ -78,9 +76,9 @@ module _ (m : Meaning) (s : Settings) (cs : List Contract) (bytes : List ℕ) (f
       }
 
   -- the lines of a whole day, and the end line
-  pub all_told : (k : ℕ) (lines : List CallLine) (last : Tables) (end : EndLine) → SoFar m s cs bytes first k lines last →
+  pub all_told : (lines : List CallLine) (last : Tables) (end : EndLine) → SoFar m s cs first lines last →
       end ≡ record { balance = last.funds.balance; held = last.funds.held; reserves = last.funds.reserved; cash = last.funds.cash } → Told m cs s lines end
-  all_told k lines last end so is =
+  all_told lines last end so is =
       let l = ledger_after cs lines (first_ledger s) in
       record {
         first = first;
@@ -97,6 +95,11 @@ module _ (m : Meaning) (s : Settings) (cs : List Contract) (bytes : List ℕ) (f
           balance = rw so.contracts at (explained m last l last.funds.balance so.law refl);
         });
       }
+
+-- the line of the call at k, put behind those of the first k
+pub numbered_more : (m : Meaning) (bytes : List ℕ) (k : ℕ) (lines : List CallLine) (line : CallLine) (now after : Tables) (place : ℕ) (c : Call) → place ≡ k + 1 → c ≡ call_at bytes k →
+    LineOf m now place c line after → map place_and_call lines ≡ numbered_calls bytes k → map place_and_call (lines ++ line ∷ []) ≡ numbered_calls bytes (k + 1)
+numbered_more m bytes k lines line now after place c at is told so = rw (map-append, so, told.place_is, told.call_is, at, is, add-one) refl
 
 -- the report of a file that was read from the bytes is theirs, over the base scale that its settings name
 pub reported : (bytes : List ℕ) (d : DayFile) (s : Settings) (scale : BaseScale) (report : Report) → Says bytes d → s ≡ d.settings → s.scale ≡ scale →

@@ -12,6 +12,9 @@ use Rattle.ledger.specs.Keeps.{Opened}
 use Rattle.ledger.specs.Law.{margin_held, reserves}
 use Rattle.ledger.specs.Ledger.{Ledger, opening_ledger}
 use Rattle.ledger.specs.Runs.{Run, LawAlong}
+use Rattle.margin.specs.Listing.{listed}
+use Rattle.dayfile.specs.declared.file.DayFile.{DayFile}
+use Rattle.dayfile.specs.Read.{Says}
 use Rattle.dayfile.specs.Faults.{file_told}
 use Rattle.dayfile.specs.Fields.{values}
 use Rattle.dayfile.specs.Format.{settings_part, terms, count_of_contracts, count_of_calls, call_at, file_fault}
@@ -68,6 +71,10 @@ pub record DayReport (m : Meaning) (bytes : List ℕ) (s : Settings) (cs : List 
   pub opening_is : report.opening ≡ record { day = s.day; contracts = length cs; balance = s.opening }
   pub calls_are : map place_and_call (vec_items report.calls) ≡ numbered_calls bytes (count_of_calls bytes)
   pub told : Told m cs s (vec_items report.calls) report.end
+
+-- the report of a file, as of any bytes that say it
+abbrev pub FileReport : Meaning → DayFile → Report → Type 0
+FileReport m d report = (bytes : List ℕ) → Says bytes d → DayReport m bytes d.settings (listed d.listing) report
 
 -- the report of the bytes: they have no fault, and it is the report of the settings, contracts and calls that they say, under the scale of those settings
 pub record Reported (bytes : List ℕ) (report : Report) : Type 0 where

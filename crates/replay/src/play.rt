@@ -1,13 +1,11 @@
 // Playing a day file on a book.
 ghost use Rattle.std.specs.Prelude.{◌≡◌, IfOk};
-ghost use Rattle.margin.specs.Listing.{listed};
 ghost use Rattle.margin.specs.Meaning.{meaning, raised_meaning};
 ghost use Rattle.ledger.specs.Runs.{Kept};
 ghost use Rattle.ledger.specs.Keeps.{KeptBy};
 ghost use Rattle.book.specs.Book.{tables_of};
-ghost use Rattle.dayfile.specs.Read.{Says};
 ghost use Rattle.replay.specs.Lines.{LineOf, answer_of};
-ghost use Rattle.replay.specs.Replayed.{DayReport, Replayed, TextOf};
+ghost use Rattle.replay.specs.Replayed.{FileReport, Replayed, TextOf};
 
 use crate::failure::Failure;
 use crate::report::{CallLine, EndLine, OpeningLine, Report};
@@ -39,14 +37,8 @@ fn play_call<S: CombinationScale>(book: &mut Book, scale: &S, place: usize, call
 }
 
 // Plays the calls of a file on a book opened by its settings.
-fn play<S: CombinationScale>(
-    heap: Global,
-    file: &DayFile,
-    bytes: &[u8],
-    scale: &S,
-) -> Result<Report, AllocError>
-    requires { Says bytes.now file.now }
-    ensures { IfOk result (DayReport (meaning S.LegScale.leg_of S.CombinationScale.pair_of scale.now) bytes.now file.now.settings (listed file.now.listing)) }
+fn play<S: CombinationScale>(heap: Global, file: &DayFile, scale: &S) -> Result<Report, AllocError>
+    ensures { IfOk result (FileReport (meaning S.LegScale.leg_of S.CombinationScale.pair_of scale.now) file.now) }
 {
     let settings = file.settings();
     let listing = file.listing();
@@ -57,11 +49,9 @@ fn play<S: CombinationScale>(
     };
     let mut book = Book::open(&settings, listing);
     let mut calls = Vec::new(heap);
-    for k in 0..file.call_count() {
-        let Some(call) = file.call(bytes, k) else {
-            unreachable()
-        };
-        calls.push(play_call(&mut book, scale, k + 1, call))?;
+    for call in file.calls() {
+        let place = calls.len() + 1;
+        calls.push(play_call(&mut book, scale, place, call))?;
     }
     let end = EndLine {
         balance: book.balance(),
@@ -80,11 +70,9 @@ fn play<S: CombinationScale>(
 fn play_raised<S: CombinationScale + Drop>(
     heap: Global,
     file: &DayFile,
-    bytes: &[u8],
     base: S,
 ) -> Result<Report, AllocError>
-    requires { Says bytes.now file.now }
-    ensures { IfOk result (DayReport (raised_meaning file.now.settings.second_raise.value (raised_meaning file.now.settings.first_raise.value (meaning S.LegScale.leg_of S.CombinationScale.pair_of base))) bytes.now file.now.settings (listed file.now.listing)) }
+    ensures { IfOk result (FileReport (raised_meaning file.now.settings.second_raise.value (raised_meaning file.now.settings.first_raise.value (meaning S.LegScale.leg_of S.CombinationScale.pair_of base))) file.now) }
 {
     let settings = file.settings();
     let first = RaisedScale {
@@ -95,7 +83,7 @@ fn play_raised<S: CombinationScale + Drop>(
         base: first,
         percent: settings.second_raise,
     };
-    play(heap, file, bytes, &second)
+    play(heap, file, &second)
 }
 
 // The report of a day file, or its fault.
@@ -104,8 +92,8 @@ pub fn replay(heap: Global, bytes: &[u8]) -> Result<Report, Failure>
 {
     let file = DayFile::read(bytes)?;
     Ok(match file.settings().scale {
-        BaseScale::Standard => play_raised(heap, &file, bytes, StandardScale)?,
-        BaseScale::Listed => play_raised(heap, &file, bytes, ListedScale)?,
+        BaseScale::Standard => play_raised(heap, &file, StandardScale)?,
+        BaseScale::Listed => play_raised(heap, &file, ListedScale)?,
     })
 }
 

@@ -1,16 +1,20 @@
 // The record of a call.
-ghost use Rattle.std.specs.Prelude.{◌≡◌, ℕ, ◌+◌, ◌*◌, ◌^◌, ◌<◌, ◌≤◌, length};
+ghost use Rattle.std.specs.Prelude.{◌≡◌, ℕ, List, length, OnOk};
 ghost use Rattle.ledger.specs.Calls.{kind_number};
 ghost use Rattle.dayfile.specs.declared.fault.Section.TheVariants.{Calls as IsCalls};
 ghost use Rattle.dayfile.specs.Faults.{Passed, SectionPassed};
-ghost use Rattle.dayfile.specs.Layout.{use_rule, argument_fields, names_of};
+ghost use Rattle.dayfile.specs.Fields.{Kept};
+ghost use Rattle.dayfile.specs.Layout.{call_number_fields, use_rule, argument_fields, names_of};
 ghost use Rattle.dayfile.specs.Records.{call_in};
-ghost use Rattle.dayfile.specs.Format.{start as start_of_lem, call_record_fault, call_fault, first_below};
+ghost use Rattle.dayfile.specs.Format.{count_of_calls, call_record_fault, call_fault, first_below};
+ghost use Rattle.dayfile.specs.Located.{SpanOf};
+ghost use Rattle.dayfile.specs.Numbered.{Numbered};
 
 use super::Named;
-use crate::fault::{RecordFault, Section, SectionFault};
+use crate::bytes::read;
+use crate::fault::{RecordFault, SectionFault};
 use crate::field::{Column, Field, Rule};
-use crate::record::{Reader, Record, read};
+use crate::record::{Record, Span};
 use crate::sections::CALL;
 use ledger::call::{Call, CallKind};
 
@@ -100,11 +104,10 @@ fn arguments(named: Named) -> [Field; 7]
     ]
 }
 
-fn check(source: &Record) -> Result<(), RecordFault>
-    requires whole { length source.now.bytes.now ≡ 24 }
-    requires here { source.now.place + 24 < 2 ^ 64 }
-    requires section { source.now.section ≡ IsCalls }
-    ensures { Passed (call_record_fault source.now.bytes.now source.now.ordinal source.now.place) result }
+fn check(source: &Record<CALL>) -> Result<(), RecordFault>
+    requires { source.now.section ≡ IsCalls }
+    ensures fault { Passed (call_record_fault source.now.bytes.now source.now.ordinal source.now.place) result }
+    ensures kept { OnOk result (Kept source.now.bytes.now call_number_fields) }
 {
     source.check(&[Field::within(NUMBER, 1, 11)])?;
     let Ok(kind) = CallKind::try_from(read(source.bytes, NUMBER) as u8) else {
@@ -113,29 +116,22 @@ fn check(source: &Record) -> Result<(), RecordFault>
     source.check(&arguments(names(kind)))
 }
 
-// Whether each call's record is sound.
-pub(crate) fn check_all(bytes: &[u8], start: usize, count: usize) -> Result<(), SectionFault>
-    requires is { start ≡ start_of_lem bytes.now IsCalls }
-    requires inside { start + 24 * count ≤ length bytes.now }
-    requires few { count < 2 ^ 32 }
-    ensures { SectionPassed (first_below count (call_fault bytes.now)) result }
+// Whether each record of the calls is sound.
+pub(crate) fn check_all(span: &Span) -> Result<(), SectionFault>
+    requires { span.now.section ≡ IsCalls }
+    ensures fault { (bytes : List ℕ) → SpanOf bytes IsCalls span.now → SectionPassed (first_below (count_of_calls bytes) (call_fault bytes)) result }
+    ensures kept { OnOk result (Numbered span.now.bytes.now) }
 {
-    let mut reader = Reader {
-        bytes,
-        section: Section::Calls,
-        passed: 0,
-        place: start,
-    };
-    for k in 0..count {
-        let found = reader.next(CALL);
+    for found in span.records::<CALL>() {
         check(&found)?;
     }
     Ok(())
 }
 
-// The call of a sound record.
+// The call of a record that has the number of one.
 pub(crate) fn call(bytes: &[u8]) -> Call
-    requires { length bytes.now ≡ 24 }
+    requires whole { length bytes.now ≡ 24 }
+    requires kept { Kept bytes.now call_number_fields }
     ensures { result ≡ call_in bytes.now }
 {
     let account = read(bytes, ACCOUNT) as u8;
@@ -144,53 +140,56 @@ pub(crate) fn call(bytes: &[u8]) -> Call
     let b = read(bytes, B) as u32;
     let lots = read(bytes, LOTS) as u32;
     let amount = read(bytes, AMOUNT);
-    match CallKind::try_from(read(bytes, NUMBER) as u8) {
-        Ok(CallKind::Deposit) => Call::Deposit { amount },
-        Ok(CallKind::Withdraw) => Call::Withdraw { amount },
-        Ok(CallKind::SellOpen) => Call::SellOpen {
+    let Ok(kind) = CallKind::try_from(read(bytes, NUMBER) as u8) else {
+        unreachable()
+    };
+    match kind {
+        CallKind::Deposit => Call::Deposit { amount },
+        CallKind::Withdraw => Call::Withdraw { amount },
+        CallKind::SellOpen => Call::SellOpen {
             account,
             contract: a,
             lots,
             limit: amount,
         },
-        Ok(CallKind::BuyOpen) => Call::BuyOpen {
+        CallKind::BuyOpen => Call::BuyOpen {
             account,
             contract: a,
             lots,
             limit: amount,
         },
-        Ok(CallKind::BuyClose) => Call::BuyClose {
+        CallKind::BuyClose => Call::BuyClose {
             account,
             contract: a,
             lots,
             limit: amount,
         },
-        Ok(CallKind::SellClose) => Call::SellClose {
+        CallKind::SellClose => Call::SellClose {
             account,
             contract: a,
             lots,
             limit: amount,
         },
-        Ok(CallKind::LegClose) => Call::LegClose {
+        CallKind::LegClose => Call::LegClose {
             combination: a,
             leg: b,
             lots,
             limit: amount,
         },
-        Ok(CallKind::Fill) => Call::Fill {
+        CallKind::Fill => Call::Fill {
             order: a,
             lots,
             price: amount,
         },
-        Ok(CallKind::Cancel) => Call::Cancel { order: a },
-        Ok(CallKind::Combine) => Call::Combine {
+        CallKind::Cancel => Call::Cancel { order: a },
+        CallKind::Combine => Call::Combine {
             account,
             strategy,
             first: a,
             second: b,
             lots,
         },
-        Ok(CallKind::Release) | Err(_) => Call::Release {
+        CallKind::Release => Call::Release {
             combination: a,
             lots,
         },

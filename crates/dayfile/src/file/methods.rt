@@ -1,12 +1,12 @@
 // Reading a day file, and what it says.
-ghost use Rattle.std.specs.Prelude.{◌≡◌};
-ghost use Rattle.dayfile.specs.Read.{ReadAs, call_of, OwnCall};
+ghost use Rattle.std.specs.Prelude.{◌≡◌, ◌/◌, length};
+ghost use Rattle.std.specs.Iterator.{at_most};
+ghost use Rattle.dayfile.specs.Read.{ReadAs, call_of, OwnCall, GivesCall};
 
-use super::DayFile;
+use super::{Calls, DayFile};
 use crate::call::parse::{call as parse_call, check_all};
 use crate::contracts::find as find_listing;
-use crate::fault::{FileFault, Section};
-use crate::record::Reader;
+use crate::fault::FileFault;
 use crate::sections::{CALL, locate};
 use crate::settings::parse::find as find_settings;
 use ledger::call::Call;
@@ -17,28 +17,22 @@ const LEAST: usize = 24;
 
 const MOST: usize = 60_000;
 
-impl DayFile {
+impl<'a> DayFile<'a> {
     // Judges the bytes in the order of the format, and tells the first fault or what they say.
-    pub fn read(bytes: &[u8]) -> Result<DayFile, FileFault>
+    pub fn read(bytes: &'a [u8]) -> Result<DayFile<'a>, FileFault>
         ensures { ReadAs bytes.now result }
     {
         if bytes.len() < LEAST || bytes.len() > MOST {
             return Err(FileFault::Size);
         }
         let sections = locate(bytes)?;
-        let settings = find_settings(bytes, sections.settings)?;
-        let listing = find_listing(
-            bytes,
-            sections.contracts,
-            sections.contract_count,
-            settings.day,
-        )?;
-        check_all(bytes, sections.calls, sections.call_count)?;
+        let settings = find_settings(&sections.settings)?;
+        let listing = find_listing(&sections.contracts, &settings)?;
+        check_all(&sections.calls)?;
         Ok(DayFile {
             settings,
             listing,
-            calls: sections.calls,
-            call_count: sections.call_count,
+            calls: sections.calls.bytes,
         })
     }
 
@@ -55,29 +49,40 @@ impl DayFile {
     }
 
     pub fn call_count(&self) -> usize
-        ensures { result ≡ self.now.call_count }
+        ensures { result ≡ length self.now.calls.now / 24 }
     {
-        self.call_count
+        self.calls.len() / CALL
     }
 
-    // The call at `k`, counted from 0. `bytes` are those that the file was read from.
-    pub fn call(&self, bytes: &[u8], k: usize) -> Option<Call>
-        ensures is { result ≡ call_of self.now bytes.now k }
-        ensures own { OwnCall self.now bytes.now k result }
+    // The call at `k`, counted from 0.
+    pub fn call(&self, k: usize) -> Option<Call>
+        ensures is { result ≡ call_of self.now k }
+        ensures own { OwnCall self.now k result }
     {
-        if k >= self.call_count {
+        if k >= self.call_count() {
             return None;
         }
-        let place = self.calls + CALL * k;
-        if place + CALL > bytes.len() {
-            return None;
-        }
-        let mut reader = Reader {
-            bytes,
-            section: Section::Calls,
-            passed: k,
-            place,
-        };
-        Some(parse_call(reader.next(CALL).bytes))
+        Some(parse_call(&self.calls[CALL * k..][..CALL]))
+    }
+
+    // The calls, one after another.
+    pub fn calls(&self) -> Calls<'a>
+        ensures { result.rest.now ≡ self.now.calls.now }
+    {
+        Calls { rest: self.calls }
+    }
+}
+
+impl Iterator for Calls<'_> {
+    type Item = Call;
+
+    ghost next_gives = { GivesCall };
+
+    ghost remaining = { λ s. at_most (length s.rest.now) };
+
+    fn next(&mut self) -> Option<Call> {
+        let (record, rest) = self.rest.split_at_checked(CALL)?;
+        self.rest = rest;
+        Some(parse_call(record))
     }
 }

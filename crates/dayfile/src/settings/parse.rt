@@ -1,15 +1,14 @@
 // The settings record.
 ghost use Rattle.std.specs.Prelude.{◌≡◌, ℕ, ◌+◌, ◌^◌, ◌<◌, ◌≤◌, length, IfOk};
-ghost use Rattle.dayfile.specs.Faults.{Passed, SectionPassed, section_number};
+ghost use Rattle.dayfile.specs.Faults.{SectionPassed, section_number};
 ghost use Rattle.dayfile.specs.Fields.{fields_fault, Kept, values};
 ghost use Rattle.dayfile.specs.Layout.{settings_fields};
 ghost use Rattle.dayfile.specs.Records.{settings_numbers};
-ghost use Rattle.dayfile.specs.Format.{start as start_of_lem, settings_part, settings_fault};
-ghost use Rattle.dayfile.specs.declared.fault.Section.TheVariants.{Settings as IsSettings};
 
-use crate::fault::{RecordFault, Section, SectionFault};
+use crate::bytes::read;
+use crate::fault::SectionFault;
 use crate::field::{Column, Field};
-use crate::record::{Reader, Record, read};
+use crate::record::Span;
 use crate::sections::SETTINGS;
 use ledger::settings::{BaseScale, Settings};
 use margin::percent::Percent;
@@ -69,29 +68,15 @@ fn settings_in(bytes: &[u8]) -> Settings
     }
 }
 
-fn settings(source: &Record) -> Result<Settings, RecordFault>
-    requires whole { length source.now.bytes.now ≡ 20 }
-    requires here { source.now.place + 20 < 2 ^ 64 }
-    ensures fault { Passed (fields_fault source.now.bytes.now (section_number source.now.section) source.now.ordinal source.now.place settings_fields) result }
-    ensures said { IfOk result (λ s. settings_numbers s ≡ values source.now.bytes.now settings_fields) }
+// The settings of a file whose settings section this is.
+pub(crate) fn find(span: &Span) -> Result<Settings, SectionFault>
+    requires { length span.now.bytes.now ≡ 20 }
+    ensures fault { SectionPassed (fields_fault span.now.bytes.now (section_number span.now.section) 1 span.now.place settings_fields) result }
+    ensures said { IfOk result (λ s. settings_numbers s ≡ values span.now.bytes.now settings_fields) }
 {
-    source.check(&fields())?;
-    Ok(settings_in(source.bytes))
-}
-
-// The settings of a file whose settings section starts at `start`.
-pub(crate) fn find(bytes: &[u8], start: usize) -> Result<Settings, SectionFault>
-    requires is { start ≡ start_of_lem bytes.now IsSettings }
-    requires inside { start + 20 ≤ length bytes.now }
-    ensures fault { SectionPassed (settings_fault bytes.now) result }
-    ensures said { IfOk result (λ s. settings_numbers s ≡ values (settings_part bytes.now) settings_fields) }
-{
-    let mut reader = Reader {
-        bytes,
-        section: Section::Settings,
-        passed: 0,
-        place: start,
+    let Some(found) = span.records::<SETTINGS>().next() else {
+        unreachable()
     };
-    let found = reader.next(SETTINGS);
-    Ok(settings(&found)?)
+    found.check(&fields())?;
+    Ok(settings_in(found.bytes))
 }

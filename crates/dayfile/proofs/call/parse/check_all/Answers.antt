@@ -1,26 +1,53 @@
-use Rattle.std.proofs.Common.{◌≡◌, None, sym, refl, ◌∙◌, subst, arith}
+use Rattle.std.proofs.Common.{◌≡◌, ℕ, ◌*◌, ◌/◌, ◌<◌, length, None, sym, refl, ap, ◌∙◌, subst, ⊎_elim, arith}
+use Rattle.std.proofs.lemmas.Bool.{cases_eq}
+use Rattle.std.proofs.lemmas.List.{length_push}
 use Rattle.std.proofs.lemmas.Result.{err_from_is_err_and}
 use Rattle.dayfile.specs.Faults.{record_told}
-use Rattle.dayfile.specs.Format.{first_below, call_fault, call_record_fault}
+use Rattle.dayfile.specs.Bytes.{part}
+use Rattle.dayfile.specs.Fields.{Kept}
+use Rattle.dayfile.specs.Layout.{call_number_fields}
+use Rattle.dayfile.specs.Format.{first_below, call_fault, call_record_fault, count_of_calls}
 use Rattle.dayfile.proofs.Firsts.{first_more, first_found}
-use Rattle.dayfile.proofs.Handed.{handed, moved, told}
+use Rattle.dayfile.proofs.Handed.{At, begun, left, handed, moved, told}
 use Rattle.dayfile.proofs.call.parse.check_all.Goals as goal
 
-pub loop-k-init : goal.loop-k-init
-loop-k-init c = (refl, record { bytes_are = refl; section_is = refl; passed_is = refl; place_is = omega (arith, c.requires.is) })
+pub loop-found-init : goal.loop-found-init
+loop-found-init c = record {
+  sound = λ bytes of. refl;
+  kept = λ k less. absurd (omega (arith, less));
+  at = subst (λ r. At c.args.span.now 0 r) (sym c.into_iter-found-iterator.ensures.into_iter_gives) (begun c.records-found-items.ensures);
+}
 
-pub loop-k-preserved : goal.loop-k-preserved
-loop-k-preserved c =
-    let sound = sym (told call_record_fault (handed c.loop-k.invariant.1 c.next-found.ensures)) ∙ c.in_ok-check.ensures in
-    (first_more (call_fault c.args.bytes.now) c.loop-k.k c.loop-k.invariant.0 sound, moved c.loop-k.invariant.1 c.next-found.ensures)
+pub loop-found-preserved : goal.loop-found-preserved
+loop-found-preserved c =
+    let n = length c.loop-found.yielded in
+    let calls = c.args.span.now.bytes.now in
+    let inv = c.loop-found.invariant in
+    let h = handed inv.at c.in-Some.ensures.steps in
+    let more = length_push c.loop-found.yielded c.in-Some.found in record {
+      sound = λ bytes of. subst (λ m. first_below m (call_fault bytes) ≡ None) (sym more) (first_more (call_fault bytes) n (inv.sound bytes of) (sym (told call_record_fault of h) ∙ c.in_ok-check.ensures.fault));
+      kept = λ k less. ⊎_elim
+          (λ same. subst (λ m. Kept (part calls (24 * m) 24) call_number_fields) (sym same) (subst (λ b. Kept b call_number_fields) h.bytes_are c.in_ok-check.ensures.kept))
+          (λ other. inv.kept k (omega (arith, less, more, other)))
+          (cases_eq k n);
+      at = subst (λ m. At c.args.span.now m c.next.new.self) (sym more) (moved inv.at c.in-Some.ensures.steps);
+    }
 
 pub returns : goal.returns
 returns c =
-    let all : c.loop-k.k ≡ c.args.count = omega arith in
-    subst (λ k. first_below k (call_fault c.args.bytes.now) ≡ None) all c.loop-k.invariant.0
+    let calls = c.args.span.now.bytes.now in
+    let inv = c.loop-found.invariant in
+    let all : length c.loop-found.yielded ≡ length calls / 24 = omega (arith, left inv.at, c.in-None.ensures.steps) in record {
+      fault = λ bytes of. subst (λ k. first_below k (call_fault bytes) ≡ None) (all ∙ ap (λ n. n / 24) of.long) (inv.sound bytes of);
+      kept = subst (λ m. (k : ℕ) → k < m → Kept (part calls (24 * k) 24) call_number_fields) all inv.kept;
+    }
 
 pub returns-in_err-check : goal.returns-in_err-check
 returns-in_err-check c =
-    let broken = sym (told call_record_fault (handed c.loop-k.invariant.1 c.next-found.ensures)) ∙ c.in_err-check.ensures in
+    let inv = c.loop-found.invariant in
+    let h = handed inv.at c.in-Some.ensures.steps in
     let p = err_from_is_err_and c.from_residual.result c.from_residual.ensures.1 in
-    rw (p.1, p.2) (first_found (call_fault c.args.bytes.now) c.args.count c.loop-k.k (record_told c.in_err-check.field-0.0) (omega arith) c.loop-k.invariant.0 broken)
+    rw (p.1, p.2) (record {
+      fault = λ bytes of. first_found (call_fault bytes) (count_of_calls bytes) (length c.loop-found.yielded) (record_told c.in_err-check.field-0.0) (omega (arith, of.long, h.within)) (inv.sound bytes of) (sym (told call_record_fault of h) ∙ c.in_err-check.ensures.fault);
+      kept = tt;
+    })

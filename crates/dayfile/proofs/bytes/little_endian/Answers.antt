@@ -1,7 +1,7 @@
 use Rattle.std.proofs.Common.{◌≡◌, ◌+◌, ◌-◌, ◌*◌, ◌^◌, ◌<◌, length, get_or, drop, refl, ap, ◌∙◌, subst, arith}
 use Rattle.dayfile.specs.Bytes.{little_endian}
 use Rattle.dayfile.proofs.Little.{SoFar, so_far_none, so_far_more, so_far_room}
-use Rattle.dayfile.proofs.record.little_endian.Goals as goal
+use Rattle.dayfile.proofs.bytes.little_endian.Goals as goal
 
 more : (c : goal.After-shared_slice_known-1) → SoFar c.args.bytes.now (c.loop-i.i - 1) (c.loop-i.n * 256 + get_or c.args.bytes.now (c.loop-i.i - 1) 0) × (c.loop-i.n * 256 + get_or c.args.bytes.now (c.loop-i.i - 1) 0 < 18446744073709551616)
 more c = so_far_more c.args.bytes.now c.loop-i.i c.loop-i.n _ (omega arith) (omega arith) (omega arith) refl (omega (arith, c.type_inv.bytes (c.loop-i.i - 1))) c.loop-i.invariant

@@ -1,0 +1,30 @@
+// Numbers in the caller's bytes.
+ghost use Rattle.std.specs.Prelude.{◌≡◌, ℕ, ◌+◌, ◌^◌, ◌<◌, ◌≤◌, length};
+ghost use Rattle.dayfile.specs.Bytes.{little_endian, value};
+
+use crate::field::Column;
+
+// The number that at most eight bytes are, the lowest first.
+fn little_endian(bytes: &[u8]) -> u64
+    requires { length bytes.now ≤ 8 }
+    ensures is { result ≡ little_endian bytes.now }
+    ensures bound { result < 256 ^ length bytes.now }
+{
+    let mut n: u64 = 0;
+    for i in (0..bytes.len()).rev() {
+        n = n * 256 + bytes[i] as u64;
+    }
+    n
+}
+
+// The number that stands in a column.
+pub(crate) fn read(bytes: &[u8], column: Column) -> u64
+    requires inside { column.at + column.width ≤ length bytes.now }
+    requires narrow { column.width ≤ 8 }
+    ensures is { result ≡ value bytes.now column }
+    ensures bound { result < 256 ^ column.width }
+{
+    let at = column.at;
+    let end = at + column.width;
+    little_endian(&bytes[at..end])
+}
