@@ -10,11 +10,9 @@ fn little_endian(bytes: &[u8]) -> u64
     ensures is { result ≡ little_endian bytes.now }
     ensures bound { result < 256 ^ length bytes.now }
 {
-    let mut n: u64 = 0;
-    for i in (0..bytes.len()).rev() {
-        n = n * 256 + bytes[i] as u64;
-    }
-    n
+    let mut eight = [0; 8];
+    eight[..bytes.len()].copy_from_slice(bytes);
+    u64::from_le_bytes(eight)
 }
 
 // The number that stands in a column.

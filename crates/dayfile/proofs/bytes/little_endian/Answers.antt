@@ -1,25 +1,17 @@
-use Rattle.std.proofs.Common.{◌≡◌, ◌+◌, ◌-◌, ◌*◌, ◌^◌, ◌<◌, length, get_or, drop, refl, ap, ◌∙◌, subst, arith}
+use Rattle.std.proofs.Common.{◌≡◌, ℕ, ◌<◌, ◌^◌, List, [], ◌∷◌, ◌++◌, length, drop, refl, sym, ap, ◌∙◌, subst, arith, length-append, length-drop}
+use Rattle.std.specs.Int.{from_le_bytes, w64}
 use Rattle.dayfile.specs.Bytes.{little_endian}
-use Rattle.dayfile.proofs.Little.{SoFar, so_far_none, so_far_more, so_far_room}
+use Rattle.dayfile.proofs.Little.{nought_behind, nought_dropped, bounded, of_eight}
 use Rattle.dayfile.proofs.bytes.little_endian.Goals as goal
 
-more : (c : goal.After-shared_slice_known-1) → SoFar c.args.bytes.now (c.loop-i.i - 1) (c.loop-i.n * 256 + get_or c.args.bytes.now (c.loop-i.i - 1) 0) × (c.loop-i.n * 256 + get_or c.args.bytes.now (c.loop-i.i - 1) 0 < 18446744073709551616)
-more c = so_far_more c.args.bytes.now c.loop-i.i c.loop-i.n _ (omega arith) (omega arith) (omega arith) refl (omega (arith, c.type_inv.bytes (c.loop-i.i - 1))) c.loop-i.invariant
-
-pub overflow_mul-n : goal.overflow_mul-n
-overflow_mul-n c = omega (arith, so_far_room c.args.bytes.now c.loop-i.i c.loop-i.n (omega arith) (omega arith) (omega arith) c.loop-i.invariant)
-
-pub overflow_add-n : goal.overflow_add-n
-overflow_add-n c = omega (arith, (more c).1)
-
-pub loop-i-init : goal.loop-i-init
-loop-i-init c = so_far_none c.args.bytes.now
-
-pub loop-i-preserved : goal.loop-i-preserved
-loop-i-preserved c = (more c).0
+abbrev eight : List ℕ
+eight = 0 ∷ 0 ∷ 0 ∷ 0 ∷ 0 ∷ 0 ∷ 0 ∷ 0 ∷ []
 
 pub returns : goal.returns
 returns c =
-    let e : c.loop-i.i ≡ 0 = omega arith in
-    let w : length c.args.bytes.now - c.loop-i.i ≡ length c.args.bytes.now = omega arith in
-    record { is = c.loop-i.invariant.0 ∙ ap (λ i. little_endian (drop i c.args.bytes.now)) e; bound = subst (λ k. c.loop-i.n < 256 ^ k) w c.loop-i.invariant.1 }
+    let bytes = c.args.bytes.now in
+    let rest = drop (length bytes) eight in
+    let read : c.from_le_bytes.result ≡ from_le_bytes w64 (c.copy_from_slice.new.self ++ rest) = c.from_le_bytes.ensures in
+    let full : length (c.copy_from_slice.new.self ++ rest) ≡ 8 = omega (arith, length-append c.copy_from_slice.new.self rest, length-drop (length bytes) eight, ap length c.copy_from_slice.ensures.after) in
+    let is : c.from_le_bytes.result ≡ little_endian bytes = read ∙ of_eight _ full ∙ nought_behind c.copy_from_slice.new.self rest (nought_dropped (length bytes) eight refl) ∙ ap little_endian c.copy_from_slice.ensures.after in
+    record { is = is; bound = subst (λ n. n < 256 ^ length bytes) (sym is) (bounded bytes (λ i. omega (arith, c.type_inv.bytes i))) }
