@@ -282,9 +282,9 @@ fn the_last_number_is_given_once(rt: HostRuntime) -> Result<(), Fail> {
 fn sixty_four_orders_stand(rt: HostRuntime) -> Result<(), Fail> {
     let order = buy_open(CALL, 1, 1);
     let mut steps = [Step(order, 22, 0, 360_000); 67];
-    for k in 0..64 {
-        let orders = k as u32 + 1;
-        steps[k] = Step(order, 0, orders, 1_000_000 - 10_000 * orders as u64);
+    for (orders, step) in (1..=64).zip(&mut steps) {
+        let balance = 1_000_000_u64.saturating_sub(10_000 * u64::from(orders));
+        *step = Step(order, 0, orders, balance);
     }
     steps[65] = Step(cancel(7), 0, 0, 370_000);
     steps[66] = Step(order, 0, 65, 360_000);

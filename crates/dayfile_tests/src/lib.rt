@@ -143,10 +143,8 @@ mod tests {
 
     fn push(bytes: &mut Vec<u8>, fields: &[(usize, u64)]) -> Result<(), AllocError> {
         for (width, value) in fields {
-            let mut rest = *value;
-            for _ in 0..*width {
-                bytes.push((rest & 0xff) as u8)?;
-                rest /= 256;
+            for byte in value.to_le_bytes().iter().take(*width) {
+                bytes.push(*byte)?;
             }
         }
         Ok(())
@@ -154,10 +152,9 @@ mod tests {
 
     // Writes a number over the bytes at a place.
     fn put(bytes: &mut [u8], place: usize, width: usize, value: u64) {
-        let mut rest = value;
-        for b in bytes.iter_mut().skip(place).take(width) {
-            *b = (rest & 0xff) as u8;
-            rest /= 256;
+        let new = value.to_le_bytes();
+        for (byte, new) in bytes.iter_mut().skip(place).take(width).zip(&new) {
+            *byte = *new;
         }
     }
 
