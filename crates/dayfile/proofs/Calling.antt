@@ -1,7 +1,6 @@
 -- The call at a place of the calls section.
-use Rattle.std.proofs.Common.{◌≡◌, ℕ, ◌+◌, ◌*◌, ◌/◌, ◌<◌, ◌≤◌, List, length, take, drop, Some, None, sym, ap, ◌∙◌, arith, length-drop}
+use Rattle.std.proofs.Common.{◌≡◌, ℕ, ◌+◌, ◌*◌, ◌<◌, ◌≤◌, List, length, take, drop, Some, ap, ◌∙◌, arith, length-drop}
 use Rattle.std.proofs.lemmas.List.{drop-drop}
-use Rattle.std.proofs.lemmas.Bool.{cond-true, cond-false, le-ltb, lt-ltb}
 use Rattle.ledger.specs.declared.call.Call.{Call}
 use Rattle.dayfile.specs.declared.fault.Section.TheVariants.{Calls}
 use Rattle.dayfile.specs.declared.file.Calls.{Calls as CallsLeft}
@@ -9,7 +8,7 @@ use Rattle.dayfile.specs.declared.file.DayFile.{DayFile}
 use Rattle.dayfile.specs.Bytes.{part}
 use Rattle.dayfile.specs.Records.{call_in}
 use Rattle.dayfile.specs.Format.{start, extent, call_part, call_at, count_of_calls}
-use Rattle.dayfile.specs.Read.{Says, call_of, OwnCall, GivesCall}
+use Rattle.dayfile.specs.Read.{Says, OwnCall, GivesCall}
 use Rattle.dayfile.proofs.Files.{calls_sound}
 use Rattle.dayfile.proofs.Handed.{part_of_part}
 use Rattle.dayfile.proofs.Telling.{call_said}
@@ -18,15 +17,8 @@ use Rattle.dayfile.proofs.Telling.{call_said}
 own_part : (d : DayFile) (bytes : List ℕ) (k : ℕ) → Says bytes d → k < count_of_calls bytes → part d.calls.now (24 * k) 24 ≡ call_part bytes k
 own_part d bytes k says less = ap (λ b. part b (24 * k) 24) says.calls ∙ part_of_part bytes (start bytes Calls) (extent bytes Calls) (24 * k) 24 (omega (arith, less))
 
-module _ (d : DayFile) (k : ℕ) where
-  pub none_behind : length d.calls.now / 24 ≤ k → (None ≡ call_of d k) × OwnCall d k None
-  none_behind h = (sym (cond-false _ _ _ (le-ltb k (length d.calls.now / 24) h)), λ bytes says less. absurd (omega (arith, less, says.calls_counted, h)))
-
-  pub one_there : k < length d.calls.now / 24 → (x : Call) → x ≡ call_in (part d.calls.now (24 * k) 24) → (Some x ≡ call_of d k) × OwnCall d k (Some x)
-  one_there low x is = (
-    ap Some is ∙ sym (cond-true _ _ _ (lt-ltb k (length d.calls.now / 24) low)),
-    λ bytes says less. (ap Some (is ∙ ap call_in (own_part d bytes k says less)), call_said bytes k (calls_sound bytes says.sound) less),
-  )
+pub own_there : (d : DayFile) (k : ℕ) (x : Call) → x ≡ call_in (part d.calls.now (24 * k) 24) → OwnCall d k (Some x)
+own_there d k x is bytes says less = (ap Some (is ∙ ap call_in (own_part d bytes k says less)), call_said bytes k (calls_sound bytes says.sound) less)
 
 -- those left behind the first k
 pub record CallsAt (d : DayFile) (k : ℕ) (s : CallsLeft) : Type 0 where

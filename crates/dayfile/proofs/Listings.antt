@@ -1,16 +1,14 @@
 -- The contracts of a file, listed one after another.
-use Rattle.std.proofs.Common.{◌≡◌, ℕ, ◌+◌, true, false, not, List, [], ◌∷◌, ◌++◌, length, None, Option, Result, sym, ap, ◌∙◌, subst, add-one}
+use Rattle.std.proofs.Common.{◌≡◌, ℕ, ◌+◌, true, false, not, List, [], ◌∷◌, ◌++◌, length, None, sym, ap, ◌∙◌, add-one}
 use Rattle.std.proofs.lemmas.List.{length_push, length-map}
 use Rattle.margin.specs.declared.listing.Listing.{Listing}
 use Rattle.margin.specs.Terms.{Terms, terms_of}
 use Rattle.margin.specs.Listed.{above, clashes_any}
 use Rattle.margin.specs.Listing.{listed, listed_terms}
-use Rattle.dayfile.specs.declared.fault.Fault.{Fault}
-use Rattle.dayfile.specs.declared.fault.RecordFault.{RecordFault}
 use Rattle.dayfile.specs.declared.fault.Section.TheVariants.{Contracts}
 use Rattle.dayfile.specs.declared.record.Record.{Record}
 use Rattle.dayfile.specs.declared.record.Span.{Span}
-use Rattle.dayfile.specs.Faults.{first, Passed}
+use Rattle.dayfile.specs.Faults.{first}
 use Rattle.dayfile.specs.Fields.{fields_fault}
 use Rattle.dayfile.specs.Layout.{contract_fields}
 use Rattle.dayfile.specs.Records.{terms_in}
@@ -21,10 +19,6 @@ use Rattle.dayfile.proofs.Handed.{Handed, told}
 -- one contract more
 pub one_more : (l m : Listing) (t : Terms) → listed_terms m ≡ listed_terms l ++ t ∷ [] → length (listed m) ≡ length (listed l) + 1
 one_more l m t e = sym (length-map (listed m) terms_of) ∙ ap length e ∙ length_push (listed_terms l) t ∙ ap (λ n. n + 1) (length-map (listed l) terms_of)
-
--- a fault behind what has none
-pub behind : {T : Type 0} (r : Result T RecordFault) (o p : Option Fault) → o ≡ None → Passed p r → Passed (first o p) r
-behind r o p none h = subst (λ x. Passed (first x p) r) (sym none) h
 
 -- a contract above the others that clashes with none of them has no fault
 pub lists : (earlier : List Terms) (t : Terms) (ordinal place : ℕ) → above earlier t ≡ true → clashes_any earlier t ≡ false → listing_fault earlier t ordinal place ≡ None

@@ -14,12 +14,6 @@ use Rattle.dayfile.proofs.Handed.{At, begun, left, handed, moved}
 use Rattle.dayfile.proofs.Listings.{lists, record_fault, listed_more, one_more}
 use Rattle.dayfile.proofs.contracts.find.Goals as goal
 
-pub judge-requires : goal.judge-requires
-judge-requires c =
-    let inv = c.loop-found.invariant in
-    let h = handed inv.at c.in-Some-found.ensures.steps in
-    record { section = h.section_is ∙ c.requires.section; room = omega (arith, inv.many, h.within) }
-
 pub loop-found-init : goal.loop-found-init
 loop-found-init c =
     let found = c.in-Some.first in

@@ -1,4 +1,4 @@
-use Rattle.std.proofs.Common.{◌≡◌, ℕ, ◌*◌, ◌/◌, ◌<◌, length, None, sym, refl, ap, ◌∙◌, subst, ⊎_elim, arith}
+use Rattle.std.proofs.Common.{◌≡◌, ◌*◌, length, None, sym, ◌∙◌, subst, ⊎_elim, arith}
 use Rattle.std.proofs.lemmas.Bool.{cases_eq}
 use Rattle.std.proofs.lemmas.List.{length_push}
 use Rattle.std.proofs.lemmas.Result.{err_from_is_err_and}
@@ -8,15 +8,8 @@ use Rattle.dayfile.specs.Fields.{Kept}
 use Rattle.dayfile.specs.Layout.{call_number_fields}
 use Rattle.dayfile.specs.Format.{first_below, call_fault, call_record_fault, count_of_calls}
 use Rattle.dayfile.proofs.Firsts.{first_more, first_found}
-use Rattle.dayfile.proofs.Handed.{At, begun, left, handed, moved, told}
+use Rattle.dayfile.proofs.Handed.{At, left, handed, moved, told}
 use Rattle.dayfile.proofs.call.parse.check_all.Goals as goal
-
-pub loop-found-init : goal.loop-found-init
-loop-found-init c = record {
-  sound = λ bytes of. refl;
-  kept = λ k less. absurd (omega (arith, less));
-  at = subst (λ r. At c.args.span.now 0 r) (sym c.into_iter-found-iterator.ensures.into_iter_gives) (begun c.records-found-items.ensures);
-}
 
 pub loop-found-preserved : goal.loop-found-preserved
 loop-found-preserved c =
@@ -33,21 +26,16 @@ loop-found-preserved c =
       at = subst (λ m. At c.args.span.now m c.next.new.self) (sym more) (moved inv.at c.in-Some.ensures.steps);
     }
 
-pub returns : goal.returns
-returns c =
-    let calls = c.args.span.now.bytes.now in
+pub returns-clause-fault : goal.returns-clause-fault
+returns-clause-fault c = λ bytes of.
     let inv = c.loop-found.invariant in
-    let all : length c.loop-found.yielded ≡ length calls / 24 = omega (arith, left inv.at, c.in-None.ensures.steps) in record {
-      fault = λ bytes of. subst (λ k. first_below k (call_fault bytes) ≡ None) (all ∙ ap (λ n. n / 24) of.long) (inv.sound bytes of);
-      kept = subst (λ m. (k : ℕ) → k < m → Kept (part calls (24 * k) 24) call_number_fields) all inv.kept;
-    }
+    let all : length c.loop-found.yielded ≡ count_of_calls bytes = omega (arith, left inv.at, c.in-None.ensures.steps, of.long) in
+    subst (λ k. first_below k (call_fault bytes) ≡ None) all (inv.sound bytes of)
 
-pub returns-in_err-check : goal.returns-in_err-check
-returns-in_err-check c =
+pub returns-in_err-check-clause-fault : goal.returns-in_err-check-clause-fault
+returns-in_err-check-clause-fault c =
     let inv = c.loop-found.invariant in
     let h = handed inv.at c.in-Some.ensures.steps in
     let p = err_from_is_err_and c.from_residual.result c.from_residual.ensures.1 in
-    rw (p.1, p.2) (record {
-      fault = λ bytes of. first_found (call_fault bytes) (count_of_calls bytes) (length c.loop-found.yielded) (record_told c.in_err-check.field-0.0) (omega (arith, of.long, h.within)) (inv.sound bytes of) (sym (told call_record_fault of h) ∙ c.in_err-check.ensures.fault);
-      kept = tt;
-    })
+    rw (p.1, p.2) (λ bytes of. first_found (call_fault bytes) (count_of_calls bytes) (length c.loop-found.yielded) (record_told c.in_err-check.field-0.0) (omega (arith, of.long, h.within)) (inv.sound bytes of)
+    (sym (told call_record_fault of h) ∙ c.in_err-check.ensures.fault))
