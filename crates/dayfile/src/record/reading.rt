@@ -58,14 +58,8 @@ fn breach(rule: Rule, n: u64) -> Option<Breach>
     ensures { option_map breach_number result ≡ breach_of rule n }
 {
     match rule {
-        Rule::Within { low, high } => {
-            if n < low || n > high {
-                Some(Breach::OutOfRange)
-            } else {
-                None
-            }
-        }
-        Rule::Zero => { if n != 0 { Some(Breach::NotZero) } else { None } }
+        Rule::Within { low, high } => (n < low || n > high).then_some(Breach::OutOfRange),
+        Rule::Zero => (n != 0).then_some(Breach::NotZero),
         Rule::Any => None,
     }
 }
