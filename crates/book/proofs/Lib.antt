@@ -1,6 +1,5 @@
 mod OpenTables
-mod Working
-mod Terms
+mod Moving
 mod Answering
 mod Ordering
 mod Pricing

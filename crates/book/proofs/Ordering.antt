@@ -1,6 +1,5 @@
 -- The answer to an order by account and contract, put together from its parts.
-use Rattle.std.proofs.Common.{◌≡◌, ℕ, ◌*◌, ◌≤◌, Bool, ltb, List, [], ◌∷◌, Some, None, Ok, Err, sym, refl, ap, ◌∙◌, subst, arith}
-use Rattle.register.specs.Numbers.{moved_on}
+use Rattle.std.proofs.Common.{◌≡◌, ℕ, ◌*◌, ◌≤◌, Bool, ltb, List, [], ◌∷◌, get_or, Some, None, Ok, Err, sym, refl, ap, ◌∙◌, subst, arith}
 use Rattle.margin.specs.declared.listing.Listed.{Listed}
 use Rattle.margin.specs.ByCode.{by_code}
 use Rattle.margin.specs.Meaning.{Meaning}
@@ -11,14 +10,15 @@ use Rattle.ledger.specs.declared.refusal.Refusal.{Refusal}
 use Rattle.ledger.specs.declared.tables.Position.{Position}
 use Rattle.ledger.specs.declared.tables.Tables.{Tables}
 use Rattle.ledger.specs.ByCode.{leg_margin_of, unit_of}
-use Rattle.ledger.specs.Law.{contracts_of, position_of}
-use Rattle.ledger.specs.Moves.{funds_to, orders_to, at, free_bought, free_written, locking_bought, locking_written}
-use Rattle.ledger.specs.OrderRules.{terms_tests, enter_tests, order_tests, order_funds, working_sum, opens_written, opens_bought, too_many, OrderTaken}
+use Rattle.ledger.specs.Law.{contracts_of, position_of, position_row, place, none}
+use Rattle.ledger.specs.Moves.{position_to, at, free_bought, free_written, locking_bought, locking_written}
+use Rattle.ledger.specs.OrderRules.{terms_tests, enter_tests, order_tests, working_sum, opens_written, opens_bought, too_many, OrderTaken}
 use Rattle.ledger.specs.Refusals.{number_of}
-use Rattle.ledger.specs.Runs.{Kept, Listed as IsListed}
+use Rattle.ledger.specs.Runs.{Kept}
 use Rattle.ledger.specs.Tests.{Answer, first_met, ByTests}
 use Rattle.ledger.proofs.Tests.{met_front, met_back}
 use Rattle.book.specs.Checks.{Found}
+use Rattle.book.proofs.Moving.{moved_at}
 use Rattle.book.proofs.Lawful.{FewLocked, locked_few}
 
 -- an order: its kind, the test of its own, by the position that it is on, its reserve, and the tables that it is entered in
@@ -82,10 +82,12 @@ module _ (b : Tables) (a code lots limit : ℕ) (p : Placing) where
       entered still (Err e) after h = not_entered e after h
 
       -- an order that locks the lots of its position
-      pub locked : (lock : Position → Position) → p.to ≡ at a code lock b → (x : ℕ × ℕ) (t after : Tables) → Entered reserve (Ok x) t → after ≡ at a code lock t → Placed (Ok x) after
-      locked lock to_is x t after h is =
+      pub locked : (lock : Position → Position) → p.to ≡ at a code lock b → (x : ℕ × ℕ) (t : Tables) → Entered reserve (Ok x) t →
+          (row : ℕ) (new : Position) → row ≡ position_row b a code → new ≡ lock (get_or t.positions row none) → Placed (Ok x) (position_to row new t)
+      locked lock to_is x t h row new row_is new_is =
           let taken : OrderTaken order p.amount b (Ok x) t = subst (λ y. OrderTaken order y b (Ok x) t) reserve_is h.1 in
-          (past_own ∙ h.0, subst (λ z. OrderTaken order p.amount z (Ok x) after) (sym to_is) (taken.0, (taken.1.0, (is ∙ ap (at a code lock) taken.1.1.0, taken.1.1.1))))
+          let is = moved_at t a code row lock new (row_is ∙ ap (λ z. position_row z a code) (sym taken.1.1.0)) new_is in
+          (past_own ∙ h.0, subst (λ z. OrderTaken order p.amount z (Ok x) (position_to row new t)) (sym to_is) (taken.0, (taken.1.0, (is ∙ ap (at a code lock) taken.1.1.0, taken.1.1.1))))
 
 module _ (b : Tables) (code lots : ℕ) (f : Listed) (found : Found (contracts_of b) code f) where
   pub leg_amount : (m : Meaning) (margin : ℕ) → margin ≡ m.leg f.contract → lots * margin ≡ lots * leg_margin_of m (by_code (contracts_of b) code)
@@ -94,15 +96,18 @@ module _ (b : Tables) (code lots : ℕ) (f : Listed) (found : Found (contracts_o
   pub unit_amount : (limit reserve : ℕ) → reserve ≡ lots * (limit * f.contract.unit) → reserve ≡ lots * (limit * unit_of (by_code (contracts_of b) code))
   unit_amount limit reserve is = is ∙ sym (ap (λ o. lots * (limit * unit_of o)) found.contract)
 
--- what locking rests on, once the order is entered
-pub record Lockable (t : Tables) (a code : ℕ) : Type 0 where
-  pub contract : IsListed (contracts_of t) code
-  pub few : FewLocked (position_of t a code) 11000
+  module _ (a row : ℕ) (is : row ≡ place a f.place) where
+    pub row_is : row ≡ position_row b a code
+    row_is = is ∙ ap (place a) found.place
 
-pub lockable : (m : Meaning) (b : Tables) (k : Kept m b) (a code : ℕ) → 1 ≤ a → a ≤ 8 → (f : Listed) → Found (contracts_of b) code f → (o : Order) (amount : ℕ) (x : ℕ × ℕ) (t : Tables) → OrderTaken o amount b (Ok x) t → Lockable t a code
-lockable m b k a code low high f found o amount x t taken =
+    -- the position at the row that was found
+    pub here : get_or b.positions row none ≡ position_of b a code
+    here = ap (λ i. get_or b.positions i none) row_is
+
+-- what locking rests on, once the order is entered
+pub lockable : (m : Meaning) (b : Tables) (k : Kept m b) (a code : ℕ) → 1 ≤ a → a ≤ 8 → (f : Listed) → Found (contracts_of b) code f → (o : Order) (amount : ℕ) (x : ℕ × ℕ) (t : Tables) → OrderTaken o amount b (Ok x) t →
+    (row : ℕ) → row ≡ position_row b a code → FewLocked (get_or t.positions row none) 11000
+lockable m b k a code low high f found o amount x t taken row is =
     let few = locked_few m b k.0 k.1 a low high code f.contract found.contract in
-    let before : Lockable b a code = record { contract = (f.contract, found.contract); few = record { bought = omega (arith, few.bought); written = omega (arith, few.written) } } in
-    let next : Tables = funds_to (order_funds amount b.funds) (orders_to taken.0 (moved_on b.order_series) b) in
-    let entered : Lockable next a code = record { contract = before.contract; few = before.few } in
-    subst (λ z. Lockable z a code) (sym taken.1.1.0) entered
+    let before : FewLocked (position_of b a code) 11000 = record { bought = omega (arith, few.bought); written = omega (arith, few.written) } in
+    subst (λ (z : Tables). FewLocked (get_or z.positions row none) 11000) (sym taken.1.1.0) (subst (λ i. FewLocked (get_or b.positions i none) 11000) (sym is) before)

@@ -4,8 +4,8 @@ use Rattle.ledger.specs.declared.order.Order.{Order}
 use Rattle.ledger.specs.declared.tables.Position.{Position}
 use Rattle.ledger.specs.Moves.{buying, writing, closing_bought, closing_written, locking_bought, locking_written, unlocking_bought, unlocking_written}
 use Rattle.ledger.specs.OrderRules.{opens_written, opens_bought}
-use Rattle.book.specs.declared.parts.Side.{Side}
-use Rattle.book.specs.declared.parts.Side.TheVariants.{Bought, Written}
+use Rattle.book.specs.declared.positions.Side.{Side}
+use Rattle.book.specs.declared.positions.Side.TheVariants.{Bought, Written}
 
 -- the lots that an order opens on a side of an account and a contract
 abbrev pub opens : Side → ℕ → ℕ → Order → ℕ

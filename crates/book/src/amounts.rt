@@ -23,10 +23,10 @@ impl Book {
         ensures is { result ≡ leg_margin_of (meaning S.LegScale.leg_of S.CombinationScale.pair_of scale.now) (by_code (contracts_of (tables_of self.now)) contract) }
         ensures most { result ≤ 10 ^ 14 }
     {
-        match self.tables.listing.find(contract) {
-            Some(listed) => scale.leg(&listed.contract),
-            None => 0,
-        }
+        self.tables
+            .listing
+            .find(contract)
+            .map_or(0, |listed| scale.leg(&listed.contract))
     }
 
     // Lots at a price; 0 where the contract is not listed.
@@ -37,10 +37,10 @@ impl Book {
         ensures premium { result ≡ premium_of (contracts_of (tables_of self.now)) contract lots price }
         ensures most { result ≤ 10 ^ 16 }
     {
-        match self.tables.listing.find(contract) {
-            Some(listed) => premium(lots, price, &listed.contract),
-            None => 0,
-        }
+        self.tables
+            .listing
+            .find(contract)
+            .map_or(0, |listed| premium(lots, price, &listed.contract))
     }
 
     // One lot at a price; 0 where the contract is not listed.
@@ -49,10 +49,10 @@ impl Book {
         ensures is { result ≡ price * unit_of (by_code (contracts_of (tables_of self.now)) contract) }
         ensures most { result ≤ 10 ^ 13 }
     {
-        match self.tables.listing.find(contract) {
-            Some(listed) => price * listed.contract.unit as u64,
-            None => 0,
-        }
+        self.tables
+            .listing
+            .find(contract)
+            .map_or(0, |listed| price * listed.contract.unit as u64)
     }
 
     // The fitted pair of a standing combination.
@@ -61,14 +61,14 @@ impl Book {
         ensures { PairOf (contracts_of (tables_of self.now)) combination.now result }
     {
         let Some(first) = self.tables.listing.find(combination.first) else {
-            unreachable()
+            unreachable!()
         };
         let Some(second) = self.tables.listing.find(combination.second) else {
-            unreachable()
+            unreachable!()
         };
         let Some(pair) = FittedPair::fit(combination.strategy, &first.contract, &second.contract)
         else {
-            unreachable()
+            unreachable!()
         };
         pair
     }
@@ -121,8 +121,9 @@ impl Book {
     {
         match order.kind {
             OrderKind::SellOpen { contract } => self.leg_margin(scale, contract),
-            OrderKind::BuyOpen { contract } => self.lot_at(contract, order.limit),
-            OrderKind::BuyClose { contract } => self.lot_at(contract, order.limit),
+            OrderKind::BuyOpen { contract } | OrderKind::BuyClose { contract } => {
+                self.lot_at(contract, order.limit)
+            }
             OrderKind::SellClose { .. } => 0,
             OrderKind::LegClose {
                 combination,

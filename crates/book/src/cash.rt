@@ -8,6 +8,7 @@ ghost use Rattle.ledger.specs.Keeps.{KeptBy};
 ghost use Rattle.book.specs.Book.{tables_of};
 
 use crate::Book;
+use crate::parts::MOST_CASH;
 use ledger::refusal::Refusal;
 use margin::scale::{CombinationScale, LegScale};
 
@@ -15,9 +16,6 @@ use margin::scale::{CombinationScale, LegScale};
 const LEAST_AMOUNT: u64 = 1;
 
 const MOST_AMOUNT: u64 = 10_000_000_000_000_000;
-
-// The cash total never passes this, in hao.
-const MOST_CASH: u64 = 100_000_000_000_000_000;
 
 impl Book {
     // Puts an amount into the balance.

@@ -1,23 +1,26 @@
 // Combine, release and leg close.
-ghost use Rattle.std.specs.Prelude.{◌≡◌, ℕ, ◌+◌, ◌-◌, ◌^◌, ◌≤◌, [], ◌∷◌, IfOk, OnOk, nat_lt};
+ghost use Rattle.std.specs.Prelude.{◌≡◌, ℕ, ◌+◌, ◌-◌, ◌^◌, ◌<◌, ◌≤◌, ◌||◌, [], ◌∷◌, IfOk, OnOk, nat_lt};
 ghost use Rattle.margin.specs.Meaning.{meaning};
 ghost use Rattle.margin.specs.Strategies.{strategy_number, strategy_of};
 ghost use Rattle.ledger.specs.declared.call.Call.TheVariants.{Combine as CombineCall, LegClose as LegCloseCall, Release as ReleaseCall};
-ghost use Rattle.ledger.specs.CombinationRules.{pair_tests, legs_short, pair_entry_tests, CombinationTaken, CombineRule, margins_moved, leg_checks, ReleaseRule, LegCloseRule};
-ghost use Rattle.ledger.specs.Moves.{funds_to, with_lots};
-ghost use Rattle.ledger.specs.Law.{contracts_of};
+ghost use Rattle.ledger.specs.CombinationRules.{pair_tests, pair_entry_tests, CombinationTaken, CombineRule, leg_checks, ReleaseRule, LegCloseRule};
+ghost use Rattle.ledger.specs.FillRules.{fill_funds};
+ghost use Rattle.ledger.specs.Moves.{funds_to, with_lots, free_first, free_written};
+ghost use Rattle.ledger.specs.Law.{contracts_of, position_row as row_of};
 ghost use Rattle.ledger.specs.Tests.{ByTests};
-ghost use Rattle.ledger.specs.Runs.{Kept, Listed as IsListed};
+ghost use Rattle.ledger.specs.Runs.{Kept};
 ghost use Rattle.ledger.specs.Keeps.{KeptBy};
 ghost use Rattle.book.specs.Book.{tables_of};
 ghost use Rattle.book.specs.Checks.{Passes};
 ghost use Rattle.book.specs.Facts.{FundsWithin, PairNamed};
 
 use crate::Book;
-use crate::parts::{Side, check_account, check_free, check_lots, first_side, times};
+use crate::moves::{Flow, NO_FLOW};
+use crate::parts::{check_account, check_free, check_lots, times};
+use crate::positions::{Side, check_free_lots, first_side, lock, position_row, unlock};
 use ledger::order::{Combination, Order, OrderKind};
 use ledger::refusal::Refusal;
-use ledger::tables::Funds;
+use ledger::tables::Position;
 use margin::pair::FittedPair;
 use margin::scale::{CombinationScale, LegScale};
 use margin::strategy::Strategy;
@@ -48,6 +51,28 @@ fn engage(combination: &Combination, lots: u32) -> Combination
     }
 }
 
+// Whether both legs of a strategy have that many lots free.
+fn check_legs(
+    strategy: Strategy,
+    first: &Position,
+    second: &Position,
+    lots: u32,
+) -> Result<(), Refusal>
+    requires { 1 ≤ lots }
+    ensures { Passes ((18, nat_lt (free_first strategy first.now) lots || nat_lt (free_written second.now) lots) ∷ []) result }
+{
+    check_free_lots(first, first_side(strategy), lots)?;
+    check_free_lots(second, Side::Written, lots)
+}
+
+// A pair that fits, and the rows of an account's lots of its legs.
+#[derive(Drop)]
+struct Legs {
+    pair: FittedPair,
+    first: usize,
+    second: usize,
+}
+
 impl Book {
     // Whether the balance covers what is taken beyond what comes back.
     fn check_balance(&self, back: u64, taken: u64) -> Result<(), Refusal>
@@ -59,22 +84,7 @@ impl Book {
         Ok(())
     }
 
-    // Brings margin back and takes other margin in its place.
-    fn regroup(&mut self, back: u64, taken: u64)
-        requires funds { FundsWithin (tables_of self.old).funds }
-        requires back { back ≤ 10 ^ 18 }
-        requires taken { taken ≤ 10 ^ 18 }
-        ensures { tables_of self.new ≡ funds_to (margins_moved back taken (tables_of self.old).funds) (tables_of self.old) }
-    {
-        let funds = self.tables.funds;
-        self.tables.funds = Funds {
-            balance: (funds.balance + back).saturating_sub(taken),
-            held: (funds.held + taken).saturating_sub(back),
-            ..funds
-        };
-    }
-
-    // The pair that a combine names, once account, legs and lots are found good and the legs fit the strategy.
+    // The legs that a combine names, once account, legs and lots are found good and the legs fit the strategy.
     fn check_pair(
         &self,
         account: u8,
@@ -82,9 +92,10 @@ impl Book {
         first: u32,
         second: u32,
         lots: u32,
-    ) -> Result<FittedPair, Refusal>
+    ) -> Result<Legs, Refusal>
         ensures tests { Passes (pair_tests (tables_of self.now) (strategy_of strategy) account first second lots) result }
-        ensures named { IfOk result (PairNamed (contracts_of (tables_of self.now)) (strategy_of strategy) first second) }
+        ensures named { IfOk result (λ legs. PairNamed (contracts_of (tables_of self.now)) (strategy_of strategy) first second legs.pair) }
+        ensures rows { IfOk result (λ legs. (legs.first ≡ row_of (tables_of self.now) account first) × (legs.first < 512) × (legs.second ≡ row_of (tables_of self.now) account second) × (legs.second < 512)) }
         ensures ranges { OnOk result ((1 ≤ account) × (account ≤ 8) × (1 ≤ lots) × (lots ≤ 1000)) }
     {
         check_account(account)?;
@@ -101,22 +112,11 @@ impl Book {
         let Some(pair) = FittedPair::fit(strategy, &one.contract, &other.contract) else {
             return Err(Refusal::LegsDoNotFit);
         };
-        Ok(pair)
-    }
-
-    // Whether both legs of a combination have its lots free.
-    fn check_legs(&self, combination: &Combination) -> Result<(), Refusal>
-        requires account { (1 ≤ combination.now.account) × (combination.now.account ≤ 8) }
-        requires first { IsListed (contracts_of (tables_of self.now)) combination.now.first }
-        requires second { IsListed (contracts_of (tables_of self.now)) combination.now.second }
-        requires lots { 1 ≤ combination.now.lots }
-        ensures { Passes ((18, legs_short (tables_of self.now) combination.now.strategy combination.now.account combination.now.first combination.now.second combination.now.lots) ∷ []) result }
-    {
-        let account = combination.account;
-        let lots = combination.lots;
-        let side = first_side(combination.strategy);
-        self.check_free_lots(side, account, combination.first, lots)?;
-        self.check_free_lots(Side::Written, account, combination.second, lots)
+        Ok(Legs {
+            pair,
+            first: position_row(account, one.place),
+            second: position_row(account, other.place),
+        })
     }
 
     // Enters a combination, and puts its margin in the place of its legs'.
@@ -129,15 +129,20 @@ impl Book {
         requires funds { FundsWithin (tables_of self.old).funds }
         requires back { back ≤ 10 ^ 18 }
         requires taken { taken ≤ 10 ^ 18 }
-        ensures { ByTests (pair_entry_tests (tables_of self.old) back taken) (tables_of self.old) result (tables_of self.new) (CombinationTaken (tables_of self.old) combination (funds_to (margins_moved back taken (tables_of self.old).funds) (tables_of self.old))) }
+        ensures { ByTests (pair_entry_tests (tables_of self.old) back taken) (tables_of self.old) result (tables_of self.new) (CombinationTaken (tables_of self.old) combination (funds_to (fill_funds 0 0 0 back taken (tables_of self.old).funds) (tables_of self.old))) }
     {
         self.check_balance(back, taken)?;
+        let flow = Flow {
+            back,
+            taken,
+            ..NO_FLOW
+        };
         let number = register::add(
             &mut self.tables.combinations,
             &mut self.tables.combination_series,
             combination,
         )?;
-        self.regroup(back, taken);
+        self.settle(flow);
         Ok((number, self.tables.funds.balance))
     }
 
@@ -155,21 +160,32 @@ impl Book {
         ensures answer { CombineRule (meaning S.LegScale.leg_of S.CombinationScale.pair_of scale.now) (tables_of self.old) account strategy first second lots result (tables_of self.new) }
         ensures law { KeptBy (meaning S.LegScale.leg_of S.CombinationScale.pair_of scale.now) (tables_of self.old) (CombineCall account strategy first second lots) result (tables_of self.new) }
     {
-        let pair = self.check_pair(account, strategy, first, second, lots)?;
+        let legs = self.check_pair(account, strategy, first, second, lots)?;
+        let strategy = legs.pair.strategy;
+        let positions = &self.tables.positions;
+        check_legs(
+            strategy,
+            &positions[legs.first],
+            &positions[legs.second],
+            lots,
+        )?;
         let combination = Combination {
             account,
-            strategy: pair.strategy,
+            strategy,
             first,
             second,
             lots,
             engaged: 0,
         };
-        self.check_legs(&combination)?;
-        let back = times(lots, pair.legs_sum(scale));
-        let taken = times(lots, scale.pair(&pair));
+        let back = times(lots, legs.pair.legs_sum(scale));
+        let taken = times(lots, scale.pair(&legs.pair));
         let answer = self.enter_combination(combination, back, taken)?;
-        self.lock_first(&combination, lots);
-        self.lock_lots(Side::Written, account, second, lots);
+        lock(
+            &mut self.tables.positions[legs.first],
+            first_side(strategy),
+            lots,
+        );
+        lock(&mut self.tables.positions[legs.second], Side::Written, lots);
         Ok(answer)
     }
 
@@ -193,10 +209,21 @@ impl Book {
         let back = times(lots, scale.pair(&pair));
         let taken = times(lots, pair.legs_sum(scale));
         self.check_balance(back, taken)?;
-        self.regroup(back, taken);
+        let flow = Flow {
+            back,
+            taken,
+            ..NO_FLOW
+        };
+        self.settle(flow);
         self.take_off_combination(combination, &entry, lots, 0);
-        self.unlock_first(&entry, lots);
-        self.unlock_lots(Side::Written, entry.account, entry.second, lots);
+        let first = self.row_of(entry.account, entry.first);
+        unlock(
+            &mut self.tables.positions[first],
+            first_side(entry.strategy),
+            lots,
+        );
+        let second = self.row_of(entry.account, entry.second);
+        unlock(&mut self.tables.positions[second], Side::Written, lots);
         Ok((0, self.tables.funds.balance))
     }
 

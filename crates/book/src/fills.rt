@@ -1,11 +1,11 @@
 // Fill and cancel.
-ghost use Rattle.std.specs.Prelude.{◌≡◌, ℕ, ◌^◌, ◌≤◌};
+ghost use Rattle.std.specs.Prelude.{◌≡◌, ℕ, ◌^◌, ◌<◌, ◌≤◌};
 ghost use Rattle.margin.specs.Meaning.{meaning};
 ghost use Rattle.ledger.specs.declared.call.Call.TheVariants.{Fill as FillCall, Cancel as CancelCall};
 ghost use Rattle.ledger.specs.Content.{contract_of as contract_in, sells as sells_in};
 ghost use Rattle.register.specs.Rows.{lookup};
 ghost use Rattle.ledger.specs.FillRules.{freed, disengaged, leg_traded, traded, past_limit as past_limit_of, FillRule, CancelRule};
-ghost use Rattle.ledger.specs.Law.{contracts_of, position_of};
+ghost use Rattle.ledger.specs.Law.{contracts_of, position_of, position_row as row_of};
 ghost use Rattle.ledger.specs.Runs.{Kept, Listed as IsListed};
 ghost use Rattle.ledger.specs.Keeps.{KeptBy};
 ghost use Rattle.book.specs.Book.{tables_of};
@@ -13,24 +13,23 @@ ghost use Rattle.book.specs.Checks.{Passes, fill_checks};
 ghost use Rattle.book.specs.Facts.{AllSound, FundsWithin};
 
 use crate::Book;
-use crate::parts::{Side, check_lots, check_price, times};
+use crate::moves::{Flow, NO_FLOW};
+use crate::parts::{MOST_CASH, check_lots, check_price, times};
+use crate::positions::{Side, add, close, first_side, unlock};
 use ledger::order::{Combination, Order, OrderKind};
 use ledger::refusal::Refusal;
 use margin::scale::{CombinationScale, LegScale};
-
-// The cash total never passes this, in hao.
-const MOST_CASH: u64 = 100_000_000_000_000_000;
 
 // The contract that an order is on.
 fn contract_of(kind: OrderKind) -> u32
     ensures { result ≡ contract_in kind }
 {
     match kind {
-        OrderKind::SellOpen { contract } => contract,
-        OrderKind::BuyOpen { contract } => contract,
-        OrderKind::BuyClose { contract } => contract,
-        OrderKind::SellClose { contract } => contract,
-        OrderKind::LegClose { contract, .. } => contract,
+        OrderKind::SellOpen { contract }
+        | OrderKind::BuyOpen { contract }
+        | OrderKind::BuyClose { contract }
+        | OrderKind::SellClose { contract }
+        | OrderKind::LegClose { contract, .. } => contract,
     }
 }
 
@@ -62,17 +61,17 @@ impl Book {
         requires contract { IsListed (contracts_of (tables_of self.old)) (contract_in order.now.kind) }
         ensures { tables_of self.new ≡ freed (tables_of self.old) order.now.kind order.now (tables_of self.old) }
     {
-        let account = order.account;
-        let lots = order.lots;
         match order.kind {
             OrderKind::SellOpen { .. } | OrderKind::BuyOpen { .. } => {}
             OrderKind::BuyClose { contract } => {
-                self.unlock_lots(Side::Written, account, contract, lots)
+                let row = self.row_of(order.account, contract);
+                unlock(&mut self.tables.positions[row], Side::Written, order.lots);
             }
             OrderKind::SellClose { contract } => {
-                self.unlock_lots(Side::Bought, account, contract, lots)
+                let row = self.row_of(order.account, contract);
+                unlock(&mut self.tables.positions[row], Side::Bought, order.lots);
             }
-            OrderKind::LegClose { combination, .. } => self.disengage(combination, lots),
+            OrderKind::LegClose { combination, .. } => self.disengage(combination, order.lots),
         }
     }
 
@@ -117,11 +116,11 @@ impl Book {
         order: &Order,
         number: u32,
         leg: u32,
+        row: usize,
         lots: u32,
         price: u64,
     )
-        requires account { (1 ≤ order.now.account) × (order.now.account ≤ 8) }
-        requires contract { IsListed (contracts_of (tables_of self.old)) leg }
+        requires row { (row ≡ row_of (tables_of self.old) order.now.account leg) × (row < 512) }
         requires lots { lots ≤ 1000 }
         requires price { price ≤ 10 ^ 7 }
         requires limit { order.now.limit ≤ 10 ^ 7 }
@@ -133,20 +132,24 @@ impl Book {
             return;
         };
         let pair = self.fitted_pair(&combination);
-        let reserve = times(
-            lots,
-            self.leg_close_reserve(scale, &combination, leg, order.limit),
-        );
-        let paid = self.premium_of(leg, lots, price);
-        let back = times(lots, scale.pair(&pair));
-        let taken = times(lots, self.other_leg_margin(scale, &combination, leg));
-        self.settle(reserve, 0, paid, back, taken);
+        let reserve = self.leg_close_reserve(scale, &combination, leg, order.limit);
+        let flow = Flow {
+            reserve: times(lots, reserve),
+            paid: self.premium_of(leg, lots, price),
+            back: times(lots, scale.pair(&pair)),
+            taken: times(lots, self.other_leg_margin(scale, &combination, leg)),
+            ..NO_FLOW
+        };
+        self.settle(flow);
         self.take_off_combination(number, &combination, lots, lots);
-        self.close_lots(Side::Written, order.account, leg, lots);
+        close(&mut self.tables.positions[row], Side::Written, lots);
         if leg == combination.second {
-            self.unlock_first(&combination, lots);
+            let first = self.row_of(combination.account, combination.first);
+            let side = first_side(combination.strategy);
+            unlock(&mut self.tables.positions[first], side, lots);
         } else {
-            self.unlock_lots(Side::Written, combination.account, combination.second, lots);
+            let second = self.row_of(combination.account, combination.second);
+            unlock(&mut self.tables.positions[second], Side::Written, lots);
         }
     }
 
@@ -162,35 +165,50 @@ impl Book {
         requires room { ((position_of (tables_of self.old) order.now.account (contract_in order.now.kind)).bought ≤ 10000) × ((position_of (tables_of self.old) order.now.account (contract_in order.now.kind)).written ≤ 10000) }
         ensures { tables_of self.new ≡ traded (meaning S.LegScale.leg_of S.CombinationScale.pair_of scale.now) (tables_of self.old) order.now order.now.kind lots price (tables_of self.old) }
     {
+        let row = self.row_of(order.account, contract_of(order.kind));
         match order.kind {
             OrderKind::SellOpen { contract } => {
                 let margin = times(lots, self.leg_margin(scale, contract));
-                let received = self.premium_of(contract, lots, price);
-                self.settle(margin, received, 0, 0, margin);
-                self.add_lots(Side::Written, order.account, contract, lots);
+                let flow = Flow {
+                    reserve: margin,
+                    received: self.premium_of(contract, lots, price),
+                    taken: margin,
+                    ..NO_FLOW
+                };
+                self.settle(flow);
+                add(&mut self.tables.positions[row], Side::Written, lots);
             }
             OrderKind::BuyOpen { contract } => {
-                let reserve = self.premium_of(contract, lots, order.limit);
-                let paid = self.premium_of(contract, lots, price);
-                self.settle(reserve, 0, paid, 0, 0);
-                self.add_lots(Side::Bought, order.account, contract, lots);
+                let flow = Flow {
+                    reserve: self.premium_of(contract, lots, order.limit),
+                    paid: self.premium_of(contract, lots, price),
+                    ..NO_FLOW
+                };
+                self.settle(flow);
+                add(&mut self.tables.positions[row], Side::Bought, lots);
             }
             OrderKind::BuyClose { contract } => {
-                let reserve = self.premium_of(contract, lots, order.limit);
-                let paid = self.premium_of(contract, lots, price);
-                let back = times(lots, self.leg_margin(scale, contract));
-                self.settle(reserve, 0, paid, back, 0);
-                self.close_lots(Side::Written, order.account, contract, lots);
+                let flow = Flow {
+                    reserve: self.premium_of(contract, lots, order.limit),
+                    paid: self.premium_of(contract, lots, price),
+                    back: times(lots, self.leg_margin(scale, contract)),
+                    ..NO_FLOW
+                };
+                self.settle(flow);
+                close(&mut self.tables.positions[row], Side::Written, lots);
             }
             OrderKind::SellClose { contract } => {
-                let received = self.premium_of(contract, lots, price);
-                self.settle(0, received, 0, 0, 0);
-                self.close_lots(Side::Bought, order.account, contract, lots);
+                let flow = Flow {
+                    received: self.premium_of(contract, lots, price),
+                    ..NO_FLOW
+                };
+                self.settle(flow);
+                close(&mut self.tables.positions[row], Side::Bought, lots);
             }
             OrderKind::LegClose {
                 combination,
                 contract,
-            } => { self.trade_leg(scale, order, combination, contract, lots, price) }
+            } => self.trade_leg(scale, order, combination, contract, row, lots, price),
         }
     }
 
@@ -230,10 +248,13 @@ impl Book {
         let Some(entry) = register::find(&self.tables.orders, order) else {
             return Err(Refusal::NotStanding);
         };
-        let reserve = times(entry.lots, self.order_reserve(scale, &entry));
+        let flow = Flow {
+            reserve: times(entry.lots, self.order_reserve(scale, &entry)),
+            ..NO_FLOW
+        };
         let _ = register::remove(&mut self.tables.orders, order);
         self.free(&entry);
-        self.settle(reserve, 0, 0, 0, 0);
+        self.settle(flow);
         Ok((0, self.tables.funds.balance))
     }
 }

@@ -11,6 +11,7 @@ mod moves;
 pub mod opening;
 pub mod orders;
 mod parts;
+mod positions;
 pub mod questions;
 
 use ledger::tables::Tables;

@@ -4,17 +4,18 @@ ghost use Rattle.margin.specs.ByCode.{by_code, index};
 ghost use Rattle.margin.specs.Meaning.{meaning};
 ghost use Rattle.ledger.specs.declared.call.Call.TheVariants.{SellOpen as SellOpenCall, BuyOpen as BuyOpenCall, BuyClose as BuyCloseCall, SellClose as SellCloseCall};
 ghost use Rattle.ledger.specs.CombinationRules.{leg_terms_tests};
-ghost use Rattle.ledger.specs.Law.{contracts_of, position_of};
+ghost use Rattle.ledger.specs.Law.{contracts_of};
 ghost use Rattle.ledger.specs.Tests.{ByTests};
 ghost use Rattle.ledger.specs.OrderRules.{terms_tests, enter_tests, working_sum, too_many, OrderTaken, SellOpenRule, BuyOpenRule, BuyCloseRule, SellCloseRule};
-ghost use Rattle.ledger.specs.Runs.{Kept, Listed as IsListed};
+ghost use Rattle.ledger.specs.Runs.{Kept};
 ghost use Rattle.ledger.specs.Keeps.{KeptBy};
 ghost use Rattle.book.specs.Book.{tables_of};
 ghost use Rattle.book.specs.Checks.{Passes, Found};
-ghost use Rattle.book.specs.Sides.{opens, owned_on};
+ghost use Rattle.book.specs.Sides.{opens};
 
 use crate::Book;
-use crate::parts::{Side, check_account, check_lots, check_price, owned, premium};
+use crate::parts::{check_account, check_lots, check_price, premium};
+use crate::positions::{Side, check_free_lots, lock, position_row};
 use ledger::order::{Order, OrderKind};
 use ledger::refusal::Refusal;
 use margin::listing::Listed;
@@ -22,27 +23,16 @@ use margin::scale::{CombinationScale, LegScale};
 use register::row::{FREE, Row};
 
 // The lots of one side of one position, owned and working to open, never pass this.
-const MOST_LOTS: u64 = 10_000;
+const MOST_LOTS_OF_SIDE: u64 = 10_000;
 
 // The lots of an order that opens on a side of an account and a contract; 0 of every other order.
 fn lots_opened(order: &Order, side: Side, account: u8, contract: u32) -> u32
     ensures is { result ≡ opens side account contract order.now }
 {
     match (side, order.kind) {
-        (Side::Written, OrderKind::SellOpen { contract: on }) => {
-            if order.account == account && on == contract {
-                order.lots
-            } else {
-                0
-            }
-        }
-        (Side::Bought, OrderKind::BuyOpen { contract: on }) => {
-            if order.account == account && on == contract {
-                order.lots
-            } else {
-                0
-            }
-        }
+        (Side::Written, OrderKind::SellOpen { contract: on })
+        | (Side::Bought, OrderKind::BuyOpen { contract: on })
+            if order.account == account && on == contract => { order.lots }
         _ => 0,
     }
 }
@@ -50,16 +40,15 @@ fn lots_opened(order: &Order, side: Side, account: u8, contract: u32) -> u32
 // The lots of working orders that open on a side of an account and a contract.
 fn working_lots(rows: &[Row<Order>], side: Side, account: u8, contract: u32) -> u64
     requires { length rows.now ≤ 64 }
-    ensures is { result ≡ working_sum rows.now (opens side account contract) }
-    ensures most { result ≤ 64 * 4294967295 }
+    ensures { result ≡ working_sum rows.now (opens side account contract) }
 {
-    let mut working = 0;
-    for row in rows {
-        if row.number != FREE {
-            working += lots_opened(&row.entry, side, account, contract) as u64;
-        }
-    }
-    working
+    rows.iter()
+        .map(|row| if row.number == FREE {
+            0
+        } else {
+            lots_opened(&row.entry, side, account, contract) as u64
+        })
+        .sum()
 }
 
 impl Book {
@@ -99,14 +88,18 @@ impl Book {
     }
 
     // Whether lots may be opened beside those owned on the side and those working to open there.
-    fn check_room(&self, side: Side, account: u8, contract: u32, lots: u32) -> Result<(), Refusal>
-        requires account { (1 ≤ account) × (account ≤ 8) }
-        requires contract { IsListed (contracts_of (tables_of self.now)) contract }
-        ensures { Passes (too_many (owned_on side (position_of (tables_of self.now) account contract)) (working_sum (tables_of self.now).orders (opens side account contract)) lots ∷ []) result }
+    fn check_room(
+        &self,
+        owned: u32,
+        side: Side,
+        account: u8,
+        contract: u32,
+        lots: u32,
+    ) -> Result<(), Refusal>
+        ensures { Passes (too_many owned (working_sum (tables_of self.now).orders (opens side account contract)) lots ∷ []) result }
     {
-        let position = self.tables.positions[self.row_of(account, contract)];
         let working = working_lots(&self.tables.orders, side, account, contract);
-        if owned(&position, side) as u64 + working + lots as u64 > MOST_LOTS {
+        if working.saturating_add(owned as u64 + lots as u64) > MOST_LOTS_OF_SIDE {
             return Err(Refusal::PositionLimit);
         }
         Ok(())
@@ -144,7 +137,8 @@ impl Book {
         ensures law { KeptBy (meaning S.LegScale.leg_of S.CombinationScale.pair_of scale.now) (tables_of self.old) (SellOpenCall account contract lots limit) result (tables_of self.new) }
     {
         let listed = self.check_terms(account, contract, lots, limit)?;
-        self.check_room(Side::Written, account, contract, lots)?;
+        let owned = self.tables.positions[position_row(account, listed.place)].written;
+        self.check_room(owned, Side::Written, account, contract, lots)?;
         let reserve = lots as u64 * scale.leg(&listed.contract);
         let kind = OrderKind::SellOpen { contract };
         let order = Order {
@@ -170,7 +164,8 @@ impl Book {
         ensures law { KeptBy (meaning S.LegScale.leg_of S.CombinationScale.pair_of scale.now) (tables_of self.old) (BuyOpenCall account contract lots limit) result (tables_of self.new) }
     {
         let listed = self.check_terms(account, contract, lots, limit)?;
-        self.check_room(Side::Bought, account, contract, lots)?;
+        let owned = self.tables.positions[position_row(account, listed.place)].bought;
+        self.check_room(owned, Side::Bought, account, contract, lots)?;
         let reserve = premium(lots, limit, &listed.contract);
         let kind = OrderKind::BuyOpen { contract };
         let order = Order {
@@ -196,7 +191,8 @@ impl Book {
         ensures law { KeptBy (meaning S.LegScale.leg_of S.CombinationScale.pair_of scale.now) (tables_of self.old) (BuyCloseCall account contract lots limit) result (tables_of self.new) }
     {
         let listed = self.check_terms(account, contract, lots, limit)?;
-        self.check_free_lots(Side::Written, account, contract, lots)?;
+        let row = position_row(account, listed.place);
+        check_free_lots(&self.tables.positions[row], Side::Written, lots)?;
         let reserve = premium(lots, limit, &listed.contract);
         let kind = OrderKind::BuyClose { contract };
         let order = Order {
@@ -206,7 +202,7 @@ impl Book {
             limit,
         };
         let answer = self.enter(order, reserve)?;
-        self.lock_lots(Side::Written, account, contract, lots);
+        lock(&mut self.tables.positions[row], Side::Written, lots);
         Ok(answer)
     }
 
@@ -223,8 +219,9 @@ impl Book {
         ensures answer { SellCloseRule (meaning S.LegScale.leg_of S.CombinationScale.pair_of scale.now) (tables_of self.old) account contract lots limit result (tables_of self.new) }
         ensures law { KeptBy (meaning S.LegScale.leg_of S.CombinationScale.pair_of scale.now) (tables_of self.old) (SellCloseCall account contract lots limit) result (tables_of self.new) }
     {
-        self.check_terms(account, contract, lots, limit)?;
-        self.check_free_lots(Side::Bought, account, contract, lots)?;
+        let listed = self.check_terms(account, contract, lots, limit)?;
+        let row = position_row(account, listed.place);
+        check_free_lots(&self.tables.positions[row], Side::Bought, lots)?;
         let kind = OrderKind::SellClose { contract };
         let order = Order {
             account,
@@ -233,7 +230,7 @@ impl Book {
             limit,
         };
         let answer = self.enter(order, 0)?;
-        self.lock_lots(Side::Bought, account, contract, lots);
+        lock(&mut self.tables.positions[row], Side::Bought, lots);
         Ok(answer)
     }
 }

@@ -1,41 +1,20 @@
-// Checks and places that several calls share.
-ghost use Rattle.std.specs.Prelude.{◌≡◌, ℕ, ◌+◌, ◌-◌, ◌*◌, ◌^◌, ◌<◌, ◌≤◌, [], ◌∷◌, nat_lt};
-ghost use Rattle.margin.specs.Strategies.{first_written};
-ghost use Rattle.ledger.specs.Law.{place as row_place};
+// Checks and amounts that several calls share.
+ghost use Rattle.std.specs.Prelude.{◌≡◌, ℕ, ◌+◌, ◌-◌, ◌*◌, ◌^◌, ◌≤◌, [], ◌∷◌, nat_lt};
 ghost use Rattle.ledger.specs.Tests.{bad_account, bad_lots, bad_price};
 ghost use Rattle.book.specs.Checks.{Passes};
-ghost use Rattle.book.specs.Sides.{side_of, owned_on, locked_on};
 
 use ledger::refusal::Refusal;
-use ledger::tables::Position;
 use margin::contract::Contract;
-use margin::strategy::Strategy;
 
 const ACCOUNTS: u8 = 8;
 
-const CONTRACTS: usize = 64;
-
-const MOST_LOTS: u32 = 1_000;
+// The lots that one call moves.
+const MOST_LOTS_MOVED: u32 = 1_000;
 
 const HIGHEST_PRICE: u64 = 10_000_000;
 
-// The side of a position.
-#[derive(Clone, Copy)]
-pub(crate) enum Side {
-    Bought,
-    Written,
-}
-
-// The side of a strategy's first leg.
-pub(crate) fn first_side(strategy: Strategy) -> Side
-    ensures { result ≡ side_of (first_written strategy) }
-{
-    if strategy.first_written() {
-        Side::Written
-    } else {
-        Side::Bought
-    }
-}
+// The cash total never passes this, in hao.
+pub(crate) const MOST_CASH: u64 = 100_000_000_000_000_000;
 
 // Accounts are 1 to 8.
 pub(crate) fn check_account(account: u8) -> Result<(), Refusal>
@@ -51,7 +30,7 @@ pub(crate) fn check_account(account: u8) -> Result<(), Refusal>
 pub(crate) fn check_lots(lots: u32) -> Result<(), Refusal>
     ensures { Passes (bad_lots lots ∷ []) result }
 {
-    if lots < 1 || lots > MOST_LOTS {
+    if lots < 1 || lots > MOST_LOTS_MOVED {
         return Err(Refusal::LotsOutOfRange);
     }
     Ok(())
@@ -67,26 +46,6 @@ pub(crate) fn check_price(price: u64) -> Result<(), Refusal>
     Ok(())
 }
 
-// The lots of a position on a side.
-pub(crate) fn owned(position: &Position, side: Side) -> u32
-    ensures { result ≡ owned_on side position.now }
-{
-    match side {
-        Side::Bought => position.bought,
-        Side::Written => position.written,
-    }
-}
-
-// The locked lots of a position on a side.
-pub(crate) fn locked(position: &Position, side: Side) -> u32
-    ensures { result ≡ locked_on side position.now }
-{
-    match side {
-        Side::Bought => position.locked_bought,
-        Side::Written => position.locked_written,
-    }
-}
-
 // Whether that many of the lots owned are not locked.
 pub(crate) fn check_free(owned: u32, locked: u32, lots: u32) -> Result<(), Refusal>
     requires { 1 ≤ lots }
@@ -96,16 +55,6 @@ pub(crate) fn check_free(owned: u32, locked: u32, lots: u32) -> Result<(), Refus
         return Err(Refusal::TooFewLots);
     }
     Ok(())
-}
-
-// The row of an account's lots of the contract listed at a place.
-pub(crate) fn position_row(account: u8, place: usize) -> usize
-    requires account { (1 ≤ account) × (account ≤ 8) }
-    requires place { place < 64 }
-    ensures is { result ≡ row_place account place }
-    ensures inside { result < 512 }
-{
-    (account as usize - 1) * CONTRACTS + place
 }
 
 // Lots at a price, over all units of the contract, in hao.

@@ -4,7 +4,8 @@ ghost use Rattle.book.specs.Book.{tables_of};
 ghost use Rattle.book.specs.Questions.{PositionAsked, EntryAsked};
 
 use crate::Book;
-use crate::parts::{check_account, position_row};
+use crate::parts::check_account;
+use crate::positions::position_row;
 use ledger::order::{Combination, Order};
 use ledger::refusal::Refusal;
 use ledger::tables::Position;

@@ -20,8 +20,8 @@ order_reserve-requires g c =
     let k = c.requires.its_scale in
     record { fitted = all_fitted m b k.0 k.1; limit = (order_sound m b k.0 k.1 c.args.order c.in-Some.entry (sym c.in-Some.ensures)).limit.1 }
 
-pub times-reserve-requires : goal.times-reserve-requires
-times-reserve-requires g c =
+pub times-requires : goal.times-requires
+times-requires g c =
     let m : Meaning = meaning g.S.LegScale.leg_of g.S.CombinationScale.pair_of c.args.scale.now in
     let b = c.args.self.now.tables in
     let k = c.requires.its_scale in
@@ -42,7 +42,7 @@ settle-requires g c =
     let k = c.requires.its_scale in
     record {
       funds = subst FundsWithin (sym (funds_stay b c.remove.new.rows c.free.new.self.tables c.in-Some.entry c.free.ensures)) (funds_within m b k.0 k.1);
-      reserve = omega (arith, c.times-reserve.ensures.most);
+      reserve = omega (arith, c.times.ensures.most);
       received = omega arith;
       back = omega arith;
       taken = omega arith;
@@ -57,7 +57,7 @@ returns g c =
     let r : Answer = Ok (0, after.funds.balance) in
     let entry = c.in-Some.entry in
     let to : Order → Tables = λ x. funds_to (fill_funds (x.lots * reserve_per_lot m b x.kind x.limit) 0 0 0 0 b.funds) (freed b x.kind x (orders_to (removed b.orders n) b.order_series b)) in
-    let is : after ≡ to entry = cancelled b c.remove.new.rows m n c.times-reserve.result entry c.free.new.self.tables after c.remove.ensures.leaves c.free.ensures c.settle.ensures (c.times-reserve.ensures.is ∙ ap (λ x. entry.lots * x) c.order_reserve.ensures.is) in
+    let is : after ≡ to entry = cancelled b c.remove.new.rows m n c.times.result entry c.free.new.self.tables after c.remove.ensures.leaves c.free.ensures c.settle.ensures (c.times.ensures.is ∙ ap (λ x. entry.lots * x) c.order_reserve.ensures.is) in
     let P : Option Order → Type 0 = λ o. (first_met ((16, is_none o) ∷ []) ≡ None) × Standing o (λ x. answers 0 (to x) r after) in
     let a : CancelRule m b n r after = subst P c.in-Some.ensures (refl, (is, ap (λ (t : Tables). Ok (0, t.funds.balance)) is)) in
     answered m b (Cancel n) r after a

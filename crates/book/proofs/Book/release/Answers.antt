@@ -8,12 +8,14 @@ use Rattle.ledger.specs.declared.refusal.Refusal.TheVariants.{NotStanding}
 use Rattle.ledger.specs.declared.tables.Tables.{Tables}
 use Rattle.ledger.specs.CombinationRules.{released, release_tests, ReleaseRule}
 use Rattle.ledger.specs.Law.{contracts_of}
+use Rattle.ledger.specs.Moves.{position_to, unlock_first, unlocking_written}
 use Rattle.ledger.specs.Refusals.{number_of}
 use Rattle.ledger.specs.Runs.{Listed}
 use Rattle.ledger.specs.Tests.{Answer, first_met, Standing, answers, bad_lots}
 use Rattle.ledger.proofs.Tests.{unmet, within}
 use Rattle.book.proofs.Answering.{answered, passed_on}
 use Rattle.book.proofs.Lawful.{combination_sound, funds_within}
+use Rattle.book.proofs.Moving.{moved_at, unlocking_first}
 use Rattle.book.proofs.Pricing.{pair_is, legs_are}
 use Rattle.book.proofs.Releasing.{no_lots, none_stands, too_few, past_lots, released_as}
 use Rattle.book.proofs.Book.release.Goals as goal
@@ -42,17 +44,17 @@ times-taken-requires g c =
     let most = legs_sum_le (g.S.LegScale.leg_of c.args.scale.now) (g.met.S.LegScale.leg_at_most c.args.scale.now) c.fitted_pair-pair.result.strategy c.fitted_pair-pair.result.first c.fitted_pair-pair.result.second in
     record { lots = (within 1 1000 c.args.lots (unmet (bad_lots c.args.lots ∷ []) c.in_ok-check_lots.ensures).0).1; per_lot = omega (arith, c.legs_sum.ensures, most) }
 
-pub regroup-requires : goal.regroup-requires
-regroup-requires g c =
+pub settle-requires : goal.settle-requires
+settle-requires g c =
     let m : Meaning = meaning g.S.LegScale.leg_of g.S.CombinationScale.pair_of c.args.scale.now in
     let b = c.args.self.now.tables in
     let n = c.args.combination in
     let lots = c.args.lots in
     let k = c.requires.its_scale in
-    record { funds = funds_within m b k.0 k.1; back = omega (arith, c.times-back.ensures.most); taken = omega (arith, c.times-taken.ensures.most) }
+    record { funds = funds_within m b k.0 k.1; reserve = omega arith; received = omega arith; back = omega (arith, c.times-back.ensures.most); taken = omega (arith, c.times-taken.ensures.most) }
 
-pub unlock_first-requires : goal.unlock_first-requires
-unlock_first-requires g c =
+pub row_of-first-requires : goal.row_of-first-requires
+row_of-first-requires g c =
     let m : Meaning = meaning g.S.LegScale.leg_of g.S.CombinationScale.pair_of c.args.scale.now in
     let b = c.args.self.now.tables in
     let n = c.args.combination in
@@ -60,11 +62,11 @@ unlock_first-requires g c =
     let k = c.requires.its_scale in
     let entry = c.in-Some.entry in
     let s = combination_sound m b k.0 k.1 n entry (sym c.in-Some.ensures) in
-    let contracts = ap contracts_of c.take_off_combination.ensures ∙ ap contracts_of c.regroup.ensures in
+    let contracts = ap contracts_of c.take_off_combination.ensures ∙ ap contracts_of c.settle.ensures in
     record { account = s.account; contract = subst (λ cs. Listed cs entry.first) (sym contracts) (s.fitted.first, s.fitted.first_listed) }
 
-pub unlock_lots-requires : goal.unlock_lots-requires
-unlock_lots-requires g c =
+pub row_of-second-requires : goal.row_of-second-requires
+row_of-second-requires g c =
     let m : Meaning = meaning g.S.LegScale.leg_of g.S.CombinationScale.pair_of c.args.scale.now in
     let b = c.args.self.now.tables in
     let n = c.args.combination in
@@ -72,7 +74,7 @@ unlock_lots-requires g c =
     let k = c.requires.its_scale in
     let entry = c.in-Some.entry in
     let s = combination_sound m b k.0 k.1 n entry (sym c.in-Some.ensures) in
-    let contracts = ap contracts_of c.unlock_first.ensures ∙ ap contracts_of c.take_off_combination.ensures ∙ ap contracts_of c.regroup.ensures in
+    let contracts = ap contracts_of c.take_off_combination.ensures ∙ ap contracts_of c.settle.ensures in
     record { account = s.account; contract = subst (λ cs. Listed cs entry.second) (sym contracts) (s.fitted.second, s.fitted.second_listed) }
 
 pub returns-in_default : goal.returns-in_default
@@ -127,9 +129,13 @@ returns g c =
     let entry = c.in-Some.entry in
     let back = c.times-back.ensures.is ∙ ap (λ x. lots * x) (pair_is m (contracts_of b) entry c.fitted_pair-pair.result c.fitted_pair-pair.ensures c.pair.result c.pair.ensures) in
     let taken = c.times-taken.ensures.is ∙ ap (λ x. lots * x) (legs_are m (contracts_of b) entry c.fitted_pair-pair.result c.fitted_pair-pair.ensures c.legs_sum.result c.legs_sum.ensures) in
-    let after = c.unlock_lots.new.self.tables in
+    let t = c.take_off_combination.new.self.tables in
+    let one = position_to c.row_of-first.result c.unlock.new.position t in
+    let after = position_to c.row_of-second.result c.unlock-2.new.position one in
     let r : Answer = Ok (0, after.funds.balance) in
-    let is : after ≡ released m b n lots entry = released_as m b lots c.in_ok-check_lots.ensures entry n c.times-back.result c.times-taken.result c.regroup.new.self.tables c.take_off_combination.new.self.tables c.unlock_first.new.self.tables after back taken c.regroup.ensures c.take_off_combination.ensures c.unlock_first.ensures c.unlock_lots.ensures in
+    let first = moved_at t entry.account entry.first c.row_of-first.result (unlock_first entry.strategy lots) c.unlock.new.position c.row_of-first.ensures.is (c.unlock.ensures ∙ unlocking_first entry.strategy c.first_side.result c.first_side.ensures lots _) in
+    let second = moved_at one entry.account entry.second c.row_of-second.result (unlocking_written lots) c.unlock-2.new.position c.row_of-second.ensures.is c.unlock-2.ensures in
+    let is : after ≡ released m b n lots entry = released_as m b lots c.in_ok-check_lots.ensures entry n c.times-back.result c.times-taken.result c.settle.new.self.tables t one after back taken c.settle.ensures c.take_off_combination.ensures first second in
     let tests = past_lots m b lots c.in_ok-check_lots.ensures entry c.times-back.result c.times-taken.result back taken c.in_ok-check_free.ensures ∙ c.in_ok-check_balance.ensures in
     let P : Option Combination → Type 0 = λ o. (first_met (release_tests m b o lots) ≡ None) × Standing o (λ x. answers 0 (released m b n lots x) r after) in
     let a : ReleaseRule m b n lots r after = subst P c.in-Some.ensures (tests, (is, ap (λ (t : Tables). Ok (0, t.funds.balance)) is)) in

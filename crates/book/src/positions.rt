@@ -1,0 +1,113 @@
+// The lots of one position, by side.
+ghost use Rattle.std.specs.Prelude.{◌≡◌, ℕ, ◌-◌, ◌<◌, ◌≤◌, [], ◌∷◌, nat_lt};
+ghost use Rattle.margin.specs.Strategies.{first_written};
+ghost use Rattle.ledger.specs.Law.{place as row_place};
+ghost use Rattle.book.specs.Checks.{Passes};
+ghost use Rattle.book.specs.Sides.{side_of, owned_on, locked_on, free_on, adding, closing, locking, unlocking};
+
+use crate::parts::check_free;
+use ledger::refusal::Refusal;
+use ledger::tables::Position;
+use margin::strategy::Strategy;
+
+// The contracts that a listing has room for.
+const CONTRACTS: usize = 64;
+
+// The side of a position.
+#[derive(Clone, Copy)]
+pub(crate) enum Side {
+    Bought,
+    Written,
+}
+
+// The side of a strategy's first leg.
+pub(crate) fn first_side(strategy: Strategy) -> Side
+    ensures { result ≡ side_of (first_written strategy) }
+{
+    if strategy.first_written() {
+        Side::Written
+    } else {
+        Side::Bought
+    }
+}
+
+// The row of an account's lots of the contract listed at a place.
+pub(crate) fn position_row(account: u8, place: usize) -> usize
+    requires account { (1 ≤ account) × (account ≤ 8) }
+    requires place { place < 64 }
+    ensures is { result ≡ row_place account place }
+    ensures inside { result < 512 }
+{
+    (account as usize - 1) * CONTRACTS + place
+}
+
+// The lots on a side.
+pub(crate) fn owned(position: &Position, side: Side) -> u32
+    ensures { result ≡ owned_on side position.now }
+{
+    match side {
+        Side::Bought => position.bought,
+        Side::Written => position.written,
+    }
+}
+
+// The locked lots on a side.
+fn locked(position: &Position, side: Side) -> u32
+    ensures { result ≡ locked_on side position.now }
+{
+    match side {
+        Side::Bought => position.locked_bought,
+        Side::Written => position.locked_written,
+    }
+}
+
+// Whether a side has that many lots that are not locked.
+pub(crate) fn check_free_lots(position: &Position, side: Side, lots: u32) -> Result<(), Refusal>
+    requires { 1 ≤ lots }
+    ensures { Passes ((18, nat_lt (free_on side position.now) lots) ∷ []) result }
+{
+    check_free(owned(position, side), locked(position, side), lots)
+}
+
+// Adds lots on a side.
+pub(crate) fn add(position: &mut Position, side: Side, lots: u32)
+    requires few { (lots ≤ 1000) × (owned_on side position.old ≤ 10000) }
+    ensures { position.new ≡ adding side lots position.old }
+{
+    match side {
+        Side::Bought => position.bought += lots,
+        Side::Written => position.written += lots,
+    }
+}
+
+// Removes locked lots on a side.
+pub(crate) fn close(position: &mut Position, side: Side, lots: u32)
+    ensures { position.new ≡ closing side lots position.old }
+{
+    match side {
+        Side::Bought => position.bought = position.bought.saturating_sub(lots),
+        Side::Written => position.written = position.written.saturating_sub(lots),
+    }
+    unlock(position, side, lots);
+}
+
+// Locks lots on a side.
+pub(crate) fn lock(position: &mut Position, side: Side, lots: u32)
+    requires few { (lots ≤ 1000) × (locked_on side position.old ≤ 11000) }
+    ensures { position.new ≡ locking side lots position.old }
+{
+    match side {
+        Side::Bought => position.locked_bought += lots,
+        Side::Written => position.locked_written += lots,
+    }
+}
+
+// Unlocks lots on a side.
+pub(crate) fn unlock(position: &mut Position, side: Side, lots: u32)
+    ensures { position.new ≡ unlocking side lots position.old }
+{
+    match side {
+        Side::Bought => position.locked_bought = position.locked_bought.saturating_sub(lots),
+        Side::Written => position.locked_written = position.locked_written.saturating_sub(lots),
+    }
+}
