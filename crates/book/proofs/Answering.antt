@@ -20,7 +20,3 @@ module _ (m : Meaning) (b : Tables) (c : Call) where
   pub passed_on : (r : Answer) (e : Refusal) (after : Tables) → IsErrAnd r (λ y. y ≡ e) → ByTheRules m b c (Err e) after → Answered r after
   passed_on (Ok x) e after is a = absurd is
   passed_on (Err y) e after is a = answered (Err y) after (subst (λ z. ByTheRules m b c (Err z) after) (sym is) a)
-
--- a call by another name for it
-pub named : (m : Meaning) (b : Tables) (c k : Call) (r : Answer) (after : Tables) → c ≡ k → Answered m b k r after → Answered m b c r after
-named m b c k r after is a = subst (λ x. Answered m b x r after) (sym is) a

@@ -1,5 +1,5 @@
 -- The answer to a leg close, put together from its parts.
-use Rattle.std.proofs.Common.{◌≡◌, ℕ, ◌*◌, List, Some, None, Ok, Option, ap, ◌∙◌}
+use Rattle.std.proofs.Common.{◌≡◌, ℕ, ◌*◌, List, Some, None, Ok, ap, ◌∙◌}
 use Rattle.register.specs.declared.row.Row.{Row}
 use Rattle.register.specs.Rows.{changed}
 use Rattle.margin.specs.Meaning.{Meaning}
@@ -10,22 +10,11 @@ use Rattle.ledger.specs.CombinationRules.{leg_terms_tests, leg_checks, leg_entry
 use Rattle.ledger.specs.Moves.{combinations_to}
 use Rattle.ledger.specs.OrderRules.{enter_tests, OrderTaken}
 use Rattle.ledger.specs.Tests.{first_met}
-use Rattle.ledger.proofs.Tests.{met_front, met_back}
+use Rattle.ledger.proofs.Tests.{met_back}
 
 module _ (m : Meaning) (b : Tables) (code lots limit : ℕ) where
-  pub no_terms : (o : Option Combination) (n : ℕ) → first_met (leg_terms_tests b code lots limit) ≡ Some n → first_met (leg_close_tests m b o code lots limit) ≡ Some n
-  no_terms o n e = met_front (leg_terms_tests b code lots limit) (leg_entry_tests m b o code lots limit) n e
-
   module _ (terms : first_met (leg_terms_tests b code lots limit) ≡ None) where
-    pub none_stands : first_met (leg_close_tests m b None code lots limit) ≡ Some 16
-    none_stands = met_back (leg_terms_tests b code lots limit) (leg_entry_tests m b None code lots limit) terms
-
     module _ (k : Combination) where
-      pub no_leg : (n : ℕ) → first_met (leg_checks b k code lots) ≡ Some n → first_met (leg_close_tests m b (Some k) code lots limit) ≡ Some n
-      no_leg n e =
-          met_back (leg_terms_tests b code lots limit) (leg_entry_tests m b (Some k) code lots limit) terms
-          ∙ met_front (leg_checks b k code lots) (enter_tests b (lots * leg_close_per_lot m b k code limit)) n e
-
       pub past_leg : first_met (leg_checks b k code lots) ≡ None → first_met (leg_close_tests m b (Some k) code lots limit) ≡ first_met (enter_tests b (lots * leg_close_per_lot m b k code limit))
       past_leg e =
           met_back (leg_terms_tests b code lots limit) (leg_entry_tests m b (Some k) code lots limit) terms

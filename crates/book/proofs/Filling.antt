@@ -16,7 +16,7 @@ use Rattle.ledger.specs.Law.{contracts_of}
 use Rattle.ledger.specs.Moves.{orders_to}
 use Rattle.ledger.specs.Tests.{first_met, bad_lots, bad_price}
 use Rattle.ledger.proofs.Covered.{fill_never_short}
-use Rattle.ledger.proofs.Tests.{met_front, met_back}
+use Rattle.ledger.proofs.Tests.{met_back}
 use Rattle.book.specs.Checks.{fill_checks}
 
 -- a test that is not met once the one before it is not, among others
@@ -33,15 +33,6 @@ module _ (m : Meaning) (b : Tables) (lots price : ℕ) where
       let rest : List (ℕ × Bool) = fill_order_tests m b (Some o) lots price in
       met_back (bad_lots lots ∷ []) (bad_price price ∷ rest) l ∙ met_back (bad_price price ∷ []) rest p
       ∙ between (ltb o.lots lots) (past_limit o price) (short_of_funds (flow m b o.kind o.limit lots price) b.funds) t (fill_never_short m b o lots price)
-
-  pub no_lots : (o : Option Order) (n : ℕ) → first_met (bad_lots lots ∷ []) ≡ Some n → first_met (fill_tests m b o lots price) ≡ Some n
-  no_lots o n e = met_front (bad_lots lots ∷ []) (bad_price price ∷ fill_order_tests m b o lots price) n e
-
-  pub no_price : (o : Option Order) (n : ℕ) → first_met (bad_lots lots ∷ []) ≡ None → first_met (bad_price price ∷ []) ≡ Some n → first_met (fill_tests m b o lots price) ≡ Some n
-  no_price o n l e = met_back (bad_lots lots ∷ []) (bad_price price ∷ fill_order_tests m b o lots price) l ∙ met_front (bad_price price ∷ []) (fill_order_tests m b o lots price) n e
-
-  pub none_stands : first_met (bad_lots lots ∷ []) ≡ None → first_met (bad_price price ∷ []) ≡ None → first_met (fill_tests m b None lots price) ≡ Some 16
-  none_stands l p = met_back (bad_lots lots ∷ []) (bad_price price ∷ fill_order_tests m b None lots price) l ∙ met_back (bad_price price ∷ []) (fill_order_tests m b None lots price) p
 
   -- a fill moves the same once its lots are off the order
   module _ (rows : List (Row Order)) where

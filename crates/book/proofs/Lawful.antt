@@ -1,5 +1,5 @@
 -- What the law says of a book that its calls rest on.
-use Rattle.std.proofs.Common.{◌≡◌, ℕ, ◌+◌, ◌^◌, ◌<◌, ◌≤◌, Some, None, Option, sym, refl, ap, ◌∙◌, subst, arith}
+use Rattle.std.proofs.Common.{◌≡◌, ℕ, ◌≤◌, Some, None, Option, sym, refl, ap, ◌∙◌, subst, arith}
 use Rattle.register.specs.Rows.{lookup}
 use Rattle.margin.specs.declared.contract.Contract.{Contract}
 use Rattle.margin.specs.ByCode.{by_code}
@@ -59,9 +59,6 @@ module _ (m : Meaning) (b : Tables) (l : Ledger) (law : Law m l b) where
     reserved = omega (arith, law.beside.sum, law.beside.cash, law.sound.cash);
     cash = omega (arith, law.beside.cash, law.sound.cash);
   }
-
-  pub funds_fit : b.funds.balance + b.funds.reserved < 2 ^ 64
-  funds_fit = let f = funds_within in omega (arith, f.balance, f.reserved)
 
   -- no side of a position passes 10,000 lots
   pub lots_within : (a code : ℕ) (c : Contract) → 1 ≤ a → a ≤ 8 → by_code (contracts_of b) code ≡ Some c → ((position_of b a code).bought ≤ 10000) × ((position_of b a code).written ≤ 10000)

@@ -2,11 +2,8 @@ mod OpenTables
 mod Moving
 mod Answering
 mod Ordering
-mod Pricing
 mod Lawful
-mod Ending
 mod Filling
-mod Releasing
 mod Engaging
 mod Combining
 mod Playing

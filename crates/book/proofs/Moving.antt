@@ -1,16 +1,13 @@
 -- Funds and one position moved.
-use Rattle.std.proofs.Common.{◌≡◌, ℕ, ◌+◌, ◌-◌, Bool, true, false, cond, get_or, refl, ap, ◌∙◌, arith}
+use Rattle.std.proofs.Common.{◌≡◌, ℕ, Bool, true, false, cond, get_or, refl, ap, ◌∙◌}
 use Rattle.margin.specs.declared.strategy.Strategy.{Strategy}
 use Rattle.margin.specs.Strategies.{first_written}
-use Rattle.ledger.specs.declared.tables.Funds.{Funds}
 use Rattle.ledger.specs.declared.tables.Position.{Position}
 use Rattle.ledger.specs.declared.tables.Tables.{Tables}
 use Rattle.ledger.specs.Law.{position_row, none}
-use Rattle.ledger.specs.CombinationRules.{margins_moved}
-use Rattle.ledger.specs.FillRules.{fill_funds}
-use Rattle.ledger.specs.Moves.{position_to, at, lock_first, unlock_first, locking_bought, locking_written, unlocking_bought, unlocking_written}
+use Rattle.ledger.specs.Moves.{position_to, at, lock_first, locking_bought, locking_written}
 use Rattle.book.specs.declared.positions.Side.{Side}
-use Rattle.book.specs.Sides.{side_of, locking, unlocking}
+use Rattle.book.specs.Sides.{side_of, locking}
 
 pub moved_at : (t : Tables) (a code row : ℕ) (move : Position → Position) (new : Position) → row ≡ position_row t a code → new ≡ move (get_or t.positions row none) → position_to row new t ≡ at a code move t
 moved_at t a code row move new is new_is = ap (λ p. position_to row p t) new_is ∙ ap (λ r. position_to r (move (get_or t.positions r none)) t) is
@@ -19,24 +16,7 @@ locked_by : (t : Bool) (lots : ℕ) (p : Position) → locking (side_of t) lots 
 locked_by true lots p = refl
 locked_by false lots p = refl
 
-unlocked_by : (t : Bool) (lots : ℕ) (p : Position) → unlocking (side_of t) lots p ≡ cond t (unlocking_written lots p) (unlocking_bought lots p)
-unlocked_by true lots p = refl
-unlocked_by false lots p = refl
-
 -- the first leg of a strategy, on its side
 module _ (s : Strategy) (side : Side) (is : side ≡ side_of (first_written s)) (lots : ℕ) (p : Position) where
   pub locking_first : locking side lots p ≡ lock_first s lots p
   locking_first = ap (λ x. locking x lots p) is ∙ locked_by (first_written s) lots p
-
-  pub unlocking_first : unlocking side lots p ≡ unlock_first s lots p
-  unlocking_first = ap (λ x. unlocking x lots p) is ∙ unlocked_by (first_written s) lots p
-
--- a flow of margin alone
-pub margins_alone : (back taken : ℕ) (f : Funds) → fill_funds 0 0 0 back taken f ≡ margins_moved back taken f
-margins_alone back taken f =
-    let balance : f.balance + 0 + 0 + back - 0 - taken ≡ f.balance + back - taken = omega arith in
-    let reserved : f.reserved - 0 ≡ f.reserved = omega arith in
-    let cash : f.cash + 0 - 0 ≡ f.cash = omega arith in
-    ap (λ x. record { balance = x; held = f.held + taken - back; reserved = f.reserved - 0; cash = f.cash + 0 - 0 }) balance
-    ∙ ap (λ x. record { balance = f.balance + back - taken; held = f.held + taken - back; reserved = x; cash = f.cash + 0 - 0 }) reserved
-    ∙ ap (λ x. record { balance = f.balance + back - taken; held = f.held + taken - back; reserved = f.reserved; cash = x }) cash

@@ -12,8 +12,8 @@ ghost use Rattle.book.specs.Book.{tables_of};
 ghost use Rattle.book.specs.Facts.{AllFitted, PairOf};
 
 use crate::Book;
-use crate::parts::premium;
-use ledger::order::{Combination, Order, OrderKind};
+use crate::parts::{Lots, Price};
+use ledger::order::{Combination, OrderKind};
 use margin::pair::FittedPair;
 use margin::scale::{CombinationScale, LegScale};
 
@@ -30,29 +30,26 @@ impl Book {
     }
 
     // Lots at a price; 0 where the contract is not listed.
-    pub(crate) fn premium_of(&self, contract: u32, lots: u32, price: u64) -> u64
-        requires lots { lots ≤ 1000 }
-        requires price { price ≤ 10 ^ 7 }
-        ensures reserve { result ≡ lots * (price * unit_of (by_code (contracts_of (tables_of self.now)) contract)) }
-        ensures premium { result ≡ premium_of (contracts_of (tables_of self.now)) contract lots price }
+    pub(crate) fn premium_of(&self, contract: u32, lots: Lots, price: Price) -> u64
+        ensures reserve { result ≡ lots.number * (price.hao * unit_of (by_code (contracts_of (tables_of self.now)) contract)) }
+        ensures premium { result ≡ premium_of (contracts_of (tables_of self.now)) contract lots.number price.hao }
         ensures most { result ≤ 10 ^ 16 }
     {
         self.tables
             .listing
             .find(contract)
-            .map_or(0, |listed| premium(lots, price, &listed.contract))
+            .map_or(0, |listed| lots.premium(price, &listed.contract))
     }
 
     // One lot at a price; 0 where the contract is not listed.
-    pub(crate) fn lot_at(&self, contract: u32, price: u64) -> u64
-        requires { price ≤ 10 ^ 7 }
-        ensures is { result ≡ price * unit_of (by_code (contracts_of (tables_of self.now)) contract) }
+    fn lot_at(&self, contract: u32, price: Price) -> u64
+        ensures is { result ≡ price.hao * unit_of (by_code (contracts_of (tables_of self.now)) contract) }
         ensures most { result ≤ 10 ^ 13 }
     {
         self.tables
             .listing
             .find(contract)
-            .map_or(0, |listed| price * listed.contract.unit as u64)
+            .map_or(0, |listed| price.hao * listed.contract.unit as u64)
     }
 
     // The fitted pair of a standing combination.
@@ -100,11 +97,10 @@ impl Book {
         scale: &S,
         combination: &Combination,
         leg: u32,
-        limit: u64,
+        limit: Price,
     ) -> u64
-        requires fitted { Fitted (contracts_of (tables_of self.now)) (content_in combination.now) }
-        requires limit { limit ≤ 10 ^ 7 }
-        ensures is { result ≡ leg_close_reserve (meaning S.LegScale.leg_of S.CombinationScale.pair_of scale.now) (contracts_of (tables_of self.now)) leg limit (Just (content_in combination.now)) }
+        requires { Fitted (contracts_of (tables_of self.now)) (content_in combination.now) }
+        ensures is { result ≡ leg_close_reserve (meaning S.LegScale.leg_of S.CombinationScale.pair_of scale.now) (contracts_of (tables_of self.now)) leg limit.hao (Just (content_in combination.now)) }
         ensures most { result ≤ 2 * 10 ^ 14 }
     {
         let pair = self.fitted_pair(combination);
@@ -113,28 +109,27 @@ impl Book {
     }
 
     // The reserve of one lot of a working order.
-    pub(crate) fn order_reserve<S: CombinationScale>(&self, scale: &S, order: &Order) -> u64
-        requires fitted { AllFitted (tables_of self.now) }
-        requires limit { order.now.limit ≤ 10 ^ 7 }
-        ensures is { result ≡ reserve_per_lot (meaning S.LegScale.leg_of S.CombinationScale.pair_of scale.now) (tables_of self.now) order.now.kind order.now.limit }
+    pub(crate) fn order_reserve<S: CombinationScale>(
+        &self,
+        scale: &S,
+        kind: OrderKind,
+        limit: Price,
+    ) -> u64
+        requires { AllFitted (tables_of self.now) }
+        ensures is { result ≡ reserve_per_lot (meaning S.LegScale.leg_of S.CombinationScale.pair_of scale.now) (tables_of self.now) kind limit.hao }
         ensures most { result ≤ 2 * 10 ^ 14 }
     {
-        match order.kind {
+        match kind {
             OrderKind::SellOpen { contract } => self.leg_margin(scale, contract),
             OrderKind::BuyOpen { contract } | OrderKind::BuyClose { contract } => {
-                self.lot_at(contract, order.limit)
+                self.lot_at(contract, limit)
             }
             OrderKind::SellClose { .. } => 0,
             OrderKind::LegClose {
                 combination,
                 contract,
             } => match register::find(&self.tables.combinations, combination) {
-                Some(combination) => self.leg_close_reserve(
-                    scale,
-                    &combination,
-                    contract,
-                    order.limit,
-                ),
+                Some(combination) => self.leg_close_reserve(scale, &combination, contract, limit),
                 None => 0,
             },
         }

@@ -16,7 +16,7 @@ ghost use Rattle.book.specs.Facts.{FundsWithin, PairNamed};
 
 use crate::Book;
 use crate::moves::{Flow, NO_FLOW};
-use crate::parts::{check_account, check_free, check_lots, times};
+use crate::parts::{Lots, check_account, check_free};
 use crate::positions::{Side, check_free_lots, first_side, lock, position_row, unlock};
 use ledger::order::{Combination, Order, OrderKind};
 use ledger::refusal::Refusal;
@@ -56,21 +56,21 @@ fn check_legs(
     strategy: Strategy,
     first: &Position,
     second: &Position,
-    lots: u32,
+    lots: Lots,
 ) -> Result<(), Refusal>
-    requires { 1 ≤ lots }
-    ensures { Passes ((18, nat_lt (free_first strategy first.now) lots || nat_lt (free_written second.now) lots) ∷ []) result }
+    ensures { Passes ((18, nat_lt (free_first strategy first.now) lots.number || nat_lt (free_written second.now) lots.number) ∷ []) result }
 {
     check_free_lots(first, first_side(strategy), lots)?;
     check_free_lots(second, Side::Written, lots)
 }
 
-// A pair that fits, and the rows of an account's lots of its legs.
+// A pair that fits, the rows of an account's lots of its legs, and the lots that are combined.
 #[derive(Drop)]
 struct Legs {
     pair: FittedPair,
     first: usize,
     second: usize,
+    lots: Lots,
 }
 
 impl Book {
@@ -96,7 +96,8 @@ impl Book {
         ensures tests { Passes (pair_tests (tables_of self.now) (strategy_of strategy) account first second lots) result }
         ensures named { IfOk result (λ legs. PairNamed (contracts_of (tables_of self.now)) (strategy_of strategy) first second legs.pair) }
         ensures rows { IfOk result (λ legs. (legs.first ≡ row_of (tables_of self.now) account first) × (legs.first < 512) × (legs.second ≡ row_of (tables_of self.now) account second) × (legs.second < 512)) }
-        ensures ranges { OnOk result ((1 ≤ account) × (account ≤ 8) × (1 ≤ lots) × (lots ≤ 1000)) }
+        ensures lots { IfOk result (λ legs. legs.lots.number ≡ lots) }
+        ensures account { OnOk result ((1 ≤ account) × (account ≤ 8)) }
     {
         check_account(account)?;
         let Some(one) = self.tables.listing.find(first) else {
@@ -105,8 +106,8 @@ impl Book {
         let Some(other) = self.tables.listing.find(second) else {
             return Err(Refusal::NotListed);
         };
-        check_lots(lots)?;
-        let Ok(strategy) = Strategy::try_from(strategy) else {
+        let lots = Lots::new(lots)?;
+        let Some(strategy) = Strategy::from_number(strategy) else {
             return Err(Refusal::LegsDoNotFit);
         };
         let Some(pair) = FittedPair::fit(strategy, &one.contract, &other.contract) else {
@@ -116,6 +117,7 @@ impl Book {
             pair,
             first: position_row(account, one.place),
             second: position_row(account, other.place),
+            lots,
         })
     }
 
@@ -167,7 +169,7 @@ impl Book {
             strategy,
             &positions[legs.first],
             &positions[legs.second],
-            lots,
+            legs.lots,
         )?;
         let combination = Combination {
             account,
@@ -177,15 +179,19 @@ impl Book {
             lots,
             engaged: 0,
         };
-        let back = times(lots, legs.pair.legs_sum(scale));
-        let taken = times(lots, scale.pair(&legs.pair));
+        let back = legs.lots.times(legs.pair.legs_sum(scale));
+        let taken = legs.lots.times(scale.pair(&legs.pair));
         let answer = self.enter_combination(combination, back, taken)?;
         lock(
             &mut self.tables.positions[legs.first],
             first_side(strategy),
-            lots,
+            legs.lots,
         );
-        lock(&mut self.tables.positions[legs.second], Side::Written, lots);
+        lock(
+            &mut self.tables.positions[legs.second],
+            Side::Written,
+            legs.lots,
+        );
         Ok(answer)
     }
 
@@ -200,14 +206,14 @@ impl Book {
         ensures answer { ReleaseRule (meaning S.LegScale.leg_of S.CombinationScale.pair_of scale.now) (tables_of self.old) combination lots result (tables_of self.new) }
         ensures law { KeptBy (meaning S.LegScale.leg_of S.CombinationScale.pair_of scale.now) (tables_of self.old) (ReleaseCall combination lots) result (tables_of self.new) }
     {
-        check_lots(lots)?;
+        let lots = Lots::new(lots)?;
         let Some(entry) = register::find(&self.tables.combinations, combination) else {
             return Err(Refusal::NotStanding);
         };
         check_free(entry.lots, entry.engaged, lots)?;
         let pair = self.fitted_pair(&entry);
-        let back = times(lots, scale.pair(&pair));
-        let taken = times(lots, pair.legs_sum(scale));
+        let back = lots.times(scale.pair(&pair));
+        let taken = lots.times(pair.legs_sum(scale));
         self.check_balance(back, taken)?;
         let flow = Flow {
             back,
@@ -215,7 +221,7 @@ impl Book {
             ..NO_FLOW
         };
         self.settle(flow);
-        self.take_off_combination(combination, &entry, lots, 0);
+        self.take_off_combination(combination, &entry, lots.number, 0);
         let first = self.row_of(entry.account, entry.first);
         unlock(
             &mut self.tables.positions[first],
@@ -229,9 +235,8 @@ impl Book {
 
     // Whether one leg of a combination may be closed: its strategy is permitted, the leg is written, and so many lots are not
     // engaged.
-    fn check_leg(&self, combination: &Combination, leg: u32, lots: u32) -> Result<(), Refusal>
-        requires { 1 ≤ lots }
-        ensures { Passes (leg_checks (tables_of self.now) combination.now leg lots) result }
+    fn check_leg(&self, combination: &Combination, leg: u32, lots: Lots) -> Result<(), Refusal>
+        ensures { Passes (leg_checks (tables_of self.now) combination.now leg lots.number) result }
     {
         let strategy = combination.strategy;
         let permitted = self.tables.permitted / permission(strategy) % 2 == 1;
@@ -256,13 +261,14 @@ impl Book {
         ensures answer { LegCloseRule (meaning S.LegScale.leg_of S.CombinationScale.pair_of scale.now) (tables_of self.old) combination leg lots limit result (tables_of self.new) }
         ensures law { KeptBy (meaning S.LegScale.leg_of S.CombinationScale.pair_of scale.now) (tables_of self.old) (LegCloseCall combination leg lots limit) result (tables_of self.new) }
     {
-        self.check_contract(leg, lots, limit)?;
+        let terms = self.check_contract(leg, lots, limit)?;
         let Some(entry) = register::find(&self.tables.combinations, combination) else {
             return Err(Refusal::NotStanding);
         };
-        self.check_leg(&entry, leg, lots)?;
+        self.check_leg(&entry, leg, terms.lots)?;
         let engaged = engage(&entry, lots);
-        let reserve = times(lots, self.leg_close_reserve(scale, &entry, leg, limit));
+        let per_lot = self.leg_close_reserve(scale, &entry, leg, terms.limit);
+        let reserve = terms.lots.times(per_lot);
         let kind = OrderKind::LegClose {
             combination,
             contract: leg,

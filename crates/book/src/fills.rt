@@ -14,7 +14,7 @@ ghost use Rattle.book.specs.Facts.{AllSound, FundsWithin};
 
 use crate::Book;
 use crate::moves::{Flow, NO_FLOW};
-use crate::parts::{MOST_CASH, check_lots, check_price, times};
+use crate::parts::{Lots, MOST_CASH, Price};
 use crate::positions::{Side, add, close, first_side, unlock};
 use ledger::order::{Combination, Order, OrderKind};
 use ledger::refusal::Refusal;
@@ -43,6 +43,15 @@ fn sells(kind: OrderKind) -> bool
     )
 }
 
+// A working order, in range as the law has it.
+#[derive(Drop)]
+struct WorkingOrder {
+    order: Order,
+    ghost account: { (1 ≤ order.account) × (order.account ≤ 8) },
+    ghost lots: { (1 ≤ order.lots) × (order.lots ≤ 1000) },
+    ghost limit: { (1 ≤ order.limit) × (order.limit ≤ 10 ^ 7) },
+}
+
 // Whether a price is worse than an order's limit: a sale under it, a purchase over it.
 fn past_limit(order: &Order, price: u64) -> bool
     ensures { result ≡ past_limit_of order.now price }
@@ -56,20 +65,21 @@ fn past_limit(order: &Order, price: u64) -> bool
 
 impl Book {
     // Unlocks or disengages the lots of an order that ends.
-    fn free(&mut self, order: &Order)
-        requires account { (1 ≤ order.now.account) × (order.now.account ≤ 8) }
-        requires contract { IsListed (contracts_of (tables_of self.old)) (contract_in order.now.kind) }
-        ensures { tables_of self.new ≡ freed (tables_of self.old) order.now.kind order.now (tables_of self.old) }
+    fn free(&mut self, working: &WorkingOrder)
+        requires { IsListed (contracts_of (tables_of self.old)) (contract_in working.now.order.kind) }
+        ensures { tables_of self.new ≡ freed (tables_of self.old) working.now.order.kind working.now.order (tables_of self.old) }
     {
+        let order = working.order;
+        let lots = Lots { number: order.lots };
         match order.kind {
             OrderKind::SellOpen { .. } | OrderKind::BuyOpen { .. } => {}
             OrderKind::BuyClose { contract } => {
                 let row = self.row_of(order.account, contract);
-                unlock(&mut self.tables.positions[row], Side::Written, order.lots);
+                unlock(&mut self.tables.positions[row], Side::Written, lots);
             }
             OrderKind::SellClose { contract } => {
                 let row = self.row_of(order.account, contract);
-                unlock(&mut self.tables.positions[row], Side::Bought, order.lots);
+                unlock(&mut self.tables.positions[row], Side::Bought, lots);
             }
             OrderKind::LegClose { combination, .. } => self.disengage(combination, order.lots),
         }
@@ -90,16 +100,14 @@ impl Book {
     }
 
     // Whether a standing order takes a fill: its lots, its limit, and what the cash total comes to.
-    fn check_fill(&self, order: &Order, lots: u32, price: u64) -> Result<(), Refusal>
-        requires lots { lots ≤ 1000 }
-        requires price { price ≤ 10 ^ 7 }
+    fn check_fill(&self, order: &Order, lots: Lots, price: Price) -> Result<(), Refusal>
         requires funds { FundsWithin (tables_of self.now).funds }
-        ensures { Passes (fill_checks (tables_of self.now) order.now lots price) result }
+        ensures { Passes (fill_checks (tables_of self.now) order.now lots.number price.hao) result }
     {
-        if order.lots < lots {
+        if order.lots < lots.number {
             return Err(Refusal::TooFewLots);
         }
-        if past_limit(order, price) {
+        if past_limit(order, price.hao) {
             return Err(Refusal::PastLimit);
         }
         let premium = self.premium_of(contract_of(order.kind), lots, price);
@@ -113,35 +121,35 @@ impl Book {
     fn trade_leg<S: CombinationScale>(
         &mut self,
         scale: &S,
-        order: &Order,
+        working: &WorkingOrder,
         number: u32,
         leg: u32,
         row: usize,
-        lots: u32,
-        price: u64,
+        lots: Lots,
+        price: Price,
     )
-        requires row { (row ≡ row_of (tables_of self.old) order.now.account leg) × (row < 512) }
-        requires lots { lots ≤ 1000 }
-        requires price { price ≤ 10 ^ 7 }
-        requires limit { order.now.limit ≤ 10 ^ 7 }
+        requires row { (row ≡ row_of (tables_of self.old) working.now.order.account leg) × (row < 512) }
         requires funds { FundsWithin (tables_of self.old).funds }
         requires combinations { AllSound (tables_of self.old) }
-        ensures { tables_of self.new ≡ leg_traded (meaning S.LegScale.leg_of S.CombinationScale.pair_of scale.now) (tables_of self.old) order.now number leg lots price (tables_of self.old) (lookup (tables_of self.old).combinations number) }
+        ensures { tables_of self.new ≡ leg_traded (meaning S.LegScale.leg_of S.CombinationScale.pair_of scale.now) (tables_of self.old) working.now.order number leg lots.number price.hao (tables_of self.old) (lookup (tables_of self.old).combinations number) }
     {
         let Some(combination) = register::find(&self.tables.combinations, number) else {
             return;
         };
         let pair = self.fitted_pair(&combination);
-        let reserve = self.leg_close_reserve(scale, &combination, leg, order.limit);
+        let limit = Price {
+            hao: working.order.limit,
+        };
+        let reserve = self.leg_close_reserve(scale, &combination, leg, limit);
         let flow = Flow {
-            reserve: times(lots, reserve),
+            reserve: lots.times(reserve),
             paid: self.premium_of(leg, lots, price),
-            back: times(lots, scale.pair(&pair)),
-            taken: times(lots, self.other_leg_margin(scale, &combination, leg)),
+            back: lots.times(scale.pair(&pair)),
+            taken: lots.times(self.other_leg_margin(scale, &combination, leg)),
             ..NO_FLOW
         };
         self.settle(flow);
-        self.take_off_combination(number, &combination, lots, lots);
+        self.take_off_combination(number, &combination, lots.number, lots.number);
         close(&mut self.tables.positions[row], Side::Written, lots);
         if leg == combination.second {
             let first = self.row_of(combination.account, combination.first);
@@ -154,21 +162,25 @@ impl Book {
     }
 
     // Books a fill of an order by its kind.
-    fn trade<S: CombinationScale>(&mut self, scale: &S, order: &Order, lots: u32, price: u64)
-        requires account { (1 ≤ order.now.account) × (order.now.account ≤ 8) }
-        requires contract { IsListed (contracts_of (tables_of self.old)) (contract_in order.now.kind) }
-        requires lots { lots ≤ 1000 }
-        requires price { price ≤ 10 ^ 7 }
-        requires limit { order.now.limit ≤ 10 ^ 7 }
+    fn trade<S: CombinationScale>(
+        &mut self,
+        scale: &S,
+        working: &WorkingOrder,
+        lots: Lots,
+        price: Price,
+    )
+        requires contract { IsListed (contracts_of (tables_of self.old)) (contract_in working.now.order.kind) }
         requires funds { FundsWithin (tables_of self.old).funds }
         requires combinations { AllSound (tables_of self.old) }
-        requires room { ((position_of (tables_of self.old) order.now.account (contract_in order.now.kind)).bought ≤ 10000) × ((position_of (tables_of self.old) order.now.account (contract_in order.now.kind)).written ≤ 10000) }
-        ensures { tables_of self.new ≡ traded (meaning S.LegScale.leg_of S.CombinationScale.pair_of scale.now) (tables_of self.old) order.now order.now.kind lots price (tables_of self.old) }
+        requires room { ((position_of (tables_of self.old) working.now.order.account (contract_in working.now.order.kind)).bought ≤ 10000) × ((position_of (tables_of self.old) working.now.order.account (contract_in working.now.order.kind)).written ≤ 10000) }
+        ensures { tables_of self.new ≡ traded (meaning S.LegScale.leg_of S.CombinationScale.pair_of scale.now) (tables_of self.old) working.now.order working.now.order.kind lots.number price.hao (tables_of self.old) }
     {
+        let order = working.order;
+        let limit = Price { hao: order.limit };
         let row = self.row_of(order.account, contract_of(order.kind));
         match order.kind {
             OrderKind::SellOpen { contract } => {
-                let margin = times(lots, self.leg_margin(scale, contract));
+                let margin = lots.times(self.leg_margin(scale, contract));
                 let flow = Flow {
                     reserve: margin,
                     received: self.premium_of(contract, lots, price),
@@ -180,7 +192,7 @@ impl Book {
             }
             OrderKind::BuyOpen { contract } => {
                 let flow = Flow {
-                    reserve: self.premium_of(contract, lots, order.limit),
+                    reserve: self.premium_of(contract, lots, limit),
                     paid: self.premium_of(contract, lots, price),
                     ..NO_FLOW
                 };
@@ -189,9 +201,9 @@ impl Book {
             }
             OrderKind::BuyClose { contract } => {
                 let flow = Flow {
-                    reserve: self.premium_of(contract, lots, order.limit),
+                    reserve: self.premium_of(contract, lots, limit),
                     paid: self.premium_of(contract, lots, price),
-                    back: times(lots, self.leg_margin(scale, contract)),
+                    back: lots.times(self.leg_margin(scale, contract)),
                     ..NO_FLOW
                 };
                 self.settle(flow);
@@ -208,7 +220,7 @@ impl Book {
             OrderKind::LegClose {
                 combination,
                 contract,
-            } => self.trade_leg(scale, order, combination, contract, row, lots, price),
+            } => self.trade_leg(scale, working, combination, contract, row, lots, price),
         }
     }
 
@@ -224,14 +236,14 @@ impl Book {
         ensures answer { FillRule (meaning S.LegScale.leg_of S.CombinationScale.pair_of scale.now) (tables_of self.old) order lots price result (tables_of self.new) }
         ensures law { KeptBy (meaning S.LegScale.leg_of S.CombinationScale.pair_of scale.now) (tables_of self.old) (FillCall order lots price) result (tables_of self.new) }
     {
-        check_lots(lots)?;
-        check_price(price)?;
+        let lots = Lots::new(lots)?;
+        let price = Price::new(price)?;
         let Some(entry) = register::find(&self.tables.orders, order) else {
             return Err(Refusal::NotStanding);
         };
         self.check_fill(&entry, lots, price)?;
-        self.take_off_order(order, &entry, lots);
-        self.trade(scale, &entry, lots, price);
+        self.take_off_order(order, &entry, lots.number);
+        self.trade(scale, &WorkingOrder { order: entry }, lots, price);
         Ok((0, self.tables.funds.balance))
     }
 
@@ -248,12 +260,14 @@ impl Book {
         let Some(entry) = register::find(&self.tables.orders, order) else {
             return Err(Refusal::NotStanding);
         };
+        let lots = Lots { number: entry.lots };
+        let limit = Price { hao: entry.limit };
         let flow = Flow {
-            reserve: times(entry.lots, self.order_reserve(scale, &entry)),
+            reserve: lots.times(self.order_reserve(scale, entry.kind, limit)),
             ..NO_FLOW
         };
         let _ = register::remove(&mut self.tables.orders, order);
-        self.free(&entry);
+        self.free(&WorkingOrder { order: entry });
         self.settle(flow);
         Ok((0, self.tables.funds.balance))
     }

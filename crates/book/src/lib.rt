@@ -17,6 +17,7 @@ pub mod questions;
 use ledger::tables::Tables;
 
 // One balance for eight accounts. A book comes only from `open` and the calls made on it.
+// A book holds no scale: each call is handed it, and so asks that it is the one that the book is kept by.
 #[derive(Drop)]
 pub struct Book {
     tables: Tables,

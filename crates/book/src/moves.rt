@@ -32,6 +32,7 @@ pub(crate) const NO_FLOW: Flow = Flow {
 
 impl Book {
     // Moves the funds by a flow. Nothing here stops at nought: the law shows that what is taken away was there.
+    // Each call asks FundsWithin anew: it does not hold between two steps of a call, so it is no invariant of the book.
     pub(crate) fn settle(&mut self, flow: Flow)
         requires funds { FundsWithin (tables_of self.old).funds }
         requires reserve { flow.reserve ≤ 10 ^ 18 }
@@ -51,6 +52,7 @@ impl Book {
     }
 
     // The row of an account's lots of a listed contract.
+    // Its callers ask that it is listed: that is a fact of the book's listing, which no type of the number can hold.
     pub(crate) fn row_of(&self, account: u8, contract: u32) -> usize
         requires account { (1 ≤ account) × (account ≤ 8) }
         requires contract { IsListed (contracts_of (tables_of self.now)) contract }

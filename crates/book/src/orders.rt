@@ -1,5 +1,5 @@
 // Sell open, buy open, buy close and sell close.
-ghost use Rattle.std.specs.Prelude.{◌≡◌, ℕ, ◌+◌, ◌*◌, ◌^◌, ◌<◌, ◌≤◌, [], ◌∷◌, length, IfOk};
+ghost use Rattle.std.specs.Prelude.{◌≡◌, ℕ, ◌+◌, ◌*◌, ◌^◌, ◌<◌, ◌≤◌, [], ◌∷◌, length, IfOk, OnOk};
 ghost use Rattle.margin.specs.ByCode.{by_code, index};
 ghost use Rattle.margin.specs.Meaning.{meaning};
 ghost use Rattle.ledger.specs.declared.call.Call.TheVariants.{SellOpen as SellOpenCall, BuyOpen as BuyOpenCall, BuyClose as BuyCloseCall, SellClose as SellCloseCall};
@@ -11,13 +11,14 @@ ghost use Rattle.ledger.specs.Runs.{Kept};
 ghost use Rattle.ledger.specs.Keeps.{KeptBy};
 ghost use Rattle.book.specs.Book.{tables_of};
 ghost use Rattle.book.specs.Checks.{Passes, Found};
-ghost use Rattle.book.specs.Sides.{opens};
+ghost use Rattle.book.specs.Sides.{opens, owned_on};
 
 use crate::Book;
-use crate::parts::{check_account, check_lots, check_price, premium};
-use crate::positions::{Side, check_free_lots, lock, position_row};
+use crate::parts::{Lots, Price, check_account};
+use crate::positions::{Side, check_free_lots, lock, owned, position_row};
 use ledger::order::{Order, OrderKind};
 use ledger::refusal::Refusal;
+use ledger::tables::Position;
 use margin::listing::Listed;
 use margin::scale::{CombinationScale, LegScale};
 use register::row::{FREE, Row};
@@ -51,37 +52,48 @@ fn working_lots(rows: &[Row<Order>], side: Side, account: u8, contract: u32) -> 
         .sum()
 }
 
+// What an order names, found good: its contract, its lots and its limit.
+#[derive(Drop)]
+pub(crate) struct Terms {
+    pub(crate) listed: Listed,
+    pub(crate) lots: Lots,
+    pub(crate) limit: Price,
+}
+
 impl Book {
-    // The contract of an order, once it is listed, and lots and limit are found good.
+    // The terms of an order, once its contract is listed, and its lots and limit are found good.
     pub(crate) fn check_contract(
         &self,
         contract: u32,
         lots: u32,
         limit: u64,
-    ) -> Result<Listed, Refusal>
+    ) -> Result<Terms, Refusal>
         ensures tests { Passes (leg_terms_tests (tables_of self.now) contract lots limit) result }
-        ensures found { IfOk result (λ f. Found (contracts_of (tables_of self.now)) contract f) }
-        ensures ranges { IfOk result (λ f. (1 ≤ lots) × (lots ≤ 1000) × (1 ≤ limit) × (limit ≤ 10 ^ 7)) }
+        ensures found { IfOk result (λ terms. Found (contracts_of (tables_of self.now)) contract terms.listed) }
+        ensures are { IfOk result (λ terms. (terms.lots.number ≡ lots) × (terms.limit.hao ≡ limit)) }
     {
         let Some(listed) = self.tables.listing.find(contract) else {
             return Err(Refusal::NotListed);
         };
-        check_lots(lots)?;
-        check_price(limit)?;
-        Ok(listed)
+        Ok(Terms {
+            listed,
+            lots: Lots::new(lots)?,
+            limit: Price::new(limit)?,
+        })
     }
 
-    // The contract of an order of an account, once the account too is found good.
+    // The terms of an account's order, once the account too is found good.
     fn check_terms(
         &self,
         account: u8,
         contract: u32,
         lots: u32,
         limit: u64,
-    ) -> Result<Listed, Refusal>
+    ) -> Result<Terms, Refusal>
         ensures tests { Passes (terms_tests (tables_of self.now) account contract lots limit) result }
-        ensures found { IfOk result (λ f. Found (contracts_of (tables_of self.now)) contract f) }
-        ensures ranges { IfOk result (λ f. (1 ≤ account) × (account ≤ 8) × (1 ≤ lots) × (lots ≤ 1000) × (1 ≤ limit) × (limit ≤ 10 ^ 7)) }
+        ensures found { IfOk result (λ terms. Found (contracts_of (tables_of self.now)) contract terms.listed) }
+        ensures are { IfOk result (λ terms. (terms.lots.number ≡ lots) × (terms.limit.hao ≡ limit)) }
+        ensures account { OnOk result ((1 ≤ account) × (account ≤ 8)) }
     {
         check_account(account)?;
         self.check_contract(contract, lots, limit)
@@ -90,16 +102,16 @@ impl Book {
     // Whether lots may be opened beside those owned on the side and those working to open there.
     fn check_room(
         &self,
-        owned: u32,
+        position: &Position,
         side: Side,
         account: u8,
         contract: u32,
         lots: u32,
     ) -> Result<(), Refusal>
-        ensures { Passes (too_many owned (working_sum (tables_of self.now).orders (opens side account contract)) lots ∷ []) result }
+        ensures { Passes (too_many (owned_on side position.now) (working_sum (tables_of self.now).orders (opens side account contract)) lots ∷ []) result }
     {
         let working = working_lots(&self.tables.orders, side, account, contract);
-        if working.saturating_add(owned as u64 + lots as u64) > MOST_LOTS_OF_SIDE {
+        if working.saturating_add(owned(position, side) as u64 + lots as u64) > MOST_LOTS_OF_SIDE {
             return Err(Refusal::PositionLimit);
         }
         Ok(())
@@ -136,10 +148,10 @@ impl Book {
         ensures answer { SellOpenRule (meaning S.LegScale.leg_of S.CombinationScale.pair_of scale.now) (tables_of self.old) account contract lots limit result (tables_of self.new) }
         ensures law { KeptBy (meaning S.LegScale.leg_of S.CombinationScale.pair_of scale.now) (tables_of self.old) (SellOpenCall account contract lots limit) result (tables_of self.new) }
     {
-        let listed = self.check_terms(account, contract, lots, limit)?;
-        let owned = self.tables.positions[position_row(account, listed.place)].written;
-        self.check_room(owned, Side::Written, account, contract, lots)?;
-        let reserve = lots as u64 * scale.leg(&listed.contract);
+        let terms = self.check_terms(account, contract, lots, limit)?;
+        let position = self.tables.positions[position_row(account, terms.listed.place)];
+        self.check_room(&position, Side::Written, account, contract, lots)?;
+        let reserve = terms.lots.times(scale.leg(&terms.listed.contract));
         let kind = OrderKind::SellOpen { contract };
         let order = Order {
             account,
@@ -163,10 +175,10 @@ impl Book {
         ensures answer { BuyOpenRule (meaning S.LegScale.leg_of S.CombinationScale.pair_of scale.now) (tables_of self.old) account contract lots limit result (tables_of self.new) }
         ensures law { KeptBy (meaning S.LegScale.leg_of S.CombinationScale.pair_of scale.now) (tables_of self.old) (BuyOpenCall account contract lots limit) result (tables_of self.new) }
     {
-        let listed = self.check_terms(account, contract, lots, limit)?;
-        let owned = self.tables.positions[position_row(account, listed.place)].bought;
-        self.check_room(owned, Side::Bought, account, contract, lots)?;
-        let reserve = premium(lots, limit, &listed.contract);
+        let terms = self.check_terms(account, contract, lots, limit)?;
+        let position = self.tables.positions[position_row(account, terms.listed.place)];
+        self.check_room(&position, Side::Bought, account, contract, lots)?;
+        let reserve = terms.lots.premium(terms.limit, &terms.listed.contract);
         let kind = OrderKind::BuyOpen { contract };
         let order = Order {
             account,
@@ -190,10 +202,10 @@ impl Book {
         ensures answer { BuyCloseRule (meaning S.LegScale.leg_of S.CombinationScale.pair_of scale.now) (tables_of self.old) account contract lots limit result (tables_of self.new) }
         ensures law { KeptBy (meaning S.LegScale.leg_of S.CombinationScale.pair_of scale.now) (tables_of self.old) (BuyCloseCall account contract lots limit) result (tables_of self.new) }
     {
-        let listed = self.check_terms(account, contract, lots, limit)?;
-        let row = position_row(account, listed.place);
-        check_free_lots(&self.tables.positions[row], Side::Written, lots)?;
-        let reserve = premium(lots, limit, &listed.contract);
+        let terms = self.check_terms(account, contract, lots, limit)?;
+        let row = position_row(account, terms.listed.place);
+        check_free_lots(&self.tables.positions[row], Side::Written, terms.lots)?;
+        let reserve = terms.lots.premium(terms.limit, &terms.listed.contract);
         let kind = OrderKind::BuyClose { contract };
         let order = Order {
             account,
@@ -202,7 +214,7 @@ impl Book {
             limit,
         };
         let answer = self.enter(order, reserve)?;
-        lock(&mut self.tables.positions[row], Side::Written, lots);
+        lock(&mut self.tables.positions[row], Side::Written, terms.lots);
         Ok(answer)
     }
 
@@ -219,9 +231,9 @@ impl Book {
         ensures answer { SellCloseRule (meaning S.LegScale.leg_of S.CombinationScale.pair_of scale.now) (tables_of self.old) account contract lots limit result (tables_of self.new) }
         ensures law { KeptBy (meaning S.LegScale.leg_of S.CombinationScale.pair_of scale.now) (tables_of self.old) (SellCloseCall account contract lots limit) result (tables_of self.new) }
     {
-        let listed = self.check_terms(account, contract, lots, limit)?;
-        let row = position_row(account, listed.place);
-        check_free_lots(&self.tables.positions[row], Side::Bought, lots)?;
+        let terms = self.check_terms(account, contract, lots, limit)?;
+        let row = position_row(account, terms.listed.place);
+        check_free_lots(&self.tables.positions[row], Side::Bought, terms.lots)?;
         let kind = OrderKind::SellClose { contract };
         let order = Order {
             account,
@@ -230,7 +242,7 @@ impl Book {
             limit,
         };
         let answer = self.enter(order, 0)?;
-        lock(&mut self.tables.positions[row], Side::Bought, lots);
+        lock(&mut self.tables.positions[row], Side::Bought, terms.lots);
         Ok(answer)
     }
 }

@@ -1,5 +1,5 @@
-// Checks and amounts that several calls share.
-ghost use Rattle.std.specs.Prelude.{◌≡◌, ℕ, ◌+◌, ◌-◌, ◌*◌, ◌^◌, ◌≤◌, [], ◌∷◌, nat_lt};
+// Checks and checked values that several calls share.
+ghost use Rattle.std.specs.Prelude.{◌≡◌, ℕ, ◌+◌, ◌-◌, ◌*◌, ◌^◌, ◌≤◌, [], ◌∷◌, IfOk, nat_lt};
 ghost use Rattle.ledger.specs.Tests.{bad_account, bad_lots, bad_price};
 ghost use Rattle.book.specs.Checks.{Passes};
 
@@ -26,54 +26,70 @@ pub(crate) fn check_account(account: u8) -> Result<(), Refusal>
     Ok(())
 }
 
-// A call moves 1 to 1,000 lots.
-pub(crate) fn check_lots(lots: u32) -> Result<(), Refusal>
-    ensures { Passes (bad_lots lots ∷ []) result }
-{
-    if lots < 1 || lots > MOST_LOTS_MOVED {
-        return Err(Refusal::LotsOutOfRange);
-    }
-    Ok(())
+// Lots that a call moves: 1 to 1,000.
+#[derive(Clone, Copy)]
+pub(crate) struct Lots {
+    pub(crate) number: u32,
+    ghost some: { 1 ≤ number },
+    ghost most: { number ≤ 1000 },
 }
 
-// A price is 1 to 10,000,000 hao.
-pub(crate) fn check_price(price: u64) -> Result<(), Refusal>
-    ensures { Passes (bad_price price ∷ []) result }
-{
-    if price < 1 || price > HIGHEST_PRICE {
-        return Err(Refusal::PriceOutOfRange);
+impl Lots {
+    pub(crate) fn new(number: u32) -> Result<Lots, Refusal>
+        ensures tests { Passes (bad_lots number ∷ []) result }
+        ensures is { IfOk result (λ lots. lots.number ≡ number) }
+    {
+        if number < 1 || number > MOST_LOTS_MOVED {
+            return Err(Refusal::LotsOutOfRange);
+        }
+        Ok(Lots { number })
     }
-    Ok(())
+
+    // An amount per lot, over all lots.
+    pub(crate) fn times(self, per_lot: u64) -> u64
+        requires per_lot { per_lot ≤ 2 * 10 ^ 14 }
+        ensures is { result ≡ self.number * per_lot }
+        ensures most { result ≤ 2 * 10 ^ 17 }
+    {
+        self.number as u64 * per_lot
+    }
+
+    // These lots at a price, over all units of the contract, in hao.
+    pub(crate) fn premium(self, price: Price, contract: &Contract) -> u64
+        ensures reserve { result ≡ self.number * (price.hao * contract.now.unit) }
+        ensures premium { result ≡ self.number * price.hao * contract.now.unit }
+        ensures most { result ≤ 10 ^ 16 }
+    {
+        self.number as u64 * (price.hao * contract.unit as u64)
+    }
+}
+
+// A price of 1 to 10,000,000 hao.
+#[derive(Clone, Copy)]
+pub(crate) struct Price {
+    pub(crate) hao: u64,
+    ghost some: { 1 ≤ hao },
+    ghost most: { hao ≤ 10 ^ 7 },
+}
+
+impl Price {
+    pub(crate) fn new(hao: u64) -> Result<Price, Refusal>
+        ensures tests { Passes (bad_price hao ∷ []) result }
+        ensures is { IfOk result (λ price. price.hao ≡ hao) }
+    {
+        if hao < 1 || hao > HIGHEST_PRICE {
+            return Err(Refusal::PriceOutOfRange);
+        }
+        Ok(Price { hao })
+    }
 }
 
 // Whether that many of the lots owned are not locked.
-pub(crate) fn check_free(owned: u32, locked: u32, lots: u32) -> Result<(), Refusal>
-    requires { 1 ≤ lots }
-    ensures { Passes ((18, nat_lt (owned - locked) lots) ∷ []) result }
+pub(crate) fn check_free(owned: u32, locked: u32, lots: Lots) -> Result<(), Refusal>
+    ensures { Passes ((18, nat_lt (owned - locked) lots.number) ∷ []) result }
 {
-    if (owned as u64) < locked as u64 + lots as u64 {
+    if (owned as u64) < locked as u64 + lots.number as u64 {
         return Err(Refusal::TooFewLots);
     }
     Ok(())
-}
-
-// Lots at a price, over all units of the contract, in hao.
-pub(crate) fn premium(lots: u32, price: u64, contract: &Contract) -> u64
-    requires lots { lots ≤ 1000 }
-    requires price { price ≤ 10 ^ 7 }
-    ensures reserve { result ≡ lots * (price * contract.now.unit) }
-    ensures premium { result ≡ lots * price * contract.now.unit }
-    ensures most { result ≤ 10 ^ 16 }
-{
-    lots as u64 * (price * contract.unit as u64)
-}
-
-// An amount per lot, over all lots.
-pub(crate) fn times(lots: u32, per_lot: u64) -> u64
-    requires lots { lots ≤ 1000 }
-    requires per_lot { per_lot ≤ 2 * 10 ^ 14 }
-    ensures is { result ≡ lots * per_lot }
-    ensures most { result ≤ 2 * 10 ^ 17 }
-{
-    lots as u64 * per_lot
 }

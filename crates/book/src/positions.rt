@@ -5,7 +5,7 @@ ghost use Rattle.ledger.specs.Law.{place as row_place};
 ghost use Rattle.book.specs.Checks.{Passes};
 ghost use Rattle.book.specs.Sides.{side_of, owned_on, locked_on, free_on, adding, closing, locking, unlocking};
 
-use crate::parts::check_free;
+use crate::parts::{Lots, check_free};
 use ledger::refusal::Refusal;
 use ledger::tables::Position;
 use margin::strategy::Strategy;
@@ -62,50 +62,50 @@ fn locked(position: &Position, side: Side) -> u32
 }
 
 // Whether a side has that many lots that are not locked.
-pub(crate) fn check_free_lots(position: &Position, side: Side, lots: u32) -> Result<(), Refusal>
-    requires { 1 ≤ lots }
-    ensures { Passes ((18, nat_lt (free_on side position.now) lots) ∷ []) result }
+pub(crate) fn check_free_lots(position: &Position, side: Side, lots: Lots) -> Result<(), Refusal>
+    ensures { Passes ((18, nat_lt (free_on side position.now) lots.number) ∷ []) result }
 {
     check_free(owned(position, side), locked(position, side), lots)
 }
 
 // Adds lots on a side.
-pub(crate) fn add(position: &mut Position, side: Side, lots: u32)
-    requires few { (lots ≤ 1000) × (owned_on side position.old ≤ 10000) }
-    ensures { position.new ≡ adding side lots position.old }
+pub(crate) fn add(position: &mut Position, side: Side, lots: Lots)
+    requires { owned_on side position.old ≤ 10000 }
+    ensures { position.new ≡ adding side lots.number position.old }
 {
     match side {
-        Side::Bought => position.bought += lots,
-        Side::Written => position.written += lots,
+        Side::Bought => position.bought += lots.number,
+        Side::Written => position.written += lots.number,
     }
 }
 
 // Removes locked lots on a side.
-pub(crate) fn close(position: &mut Position, side: Side, lots: u32)
-    ensures { position.new ≡ closing side lots position.old }
+pub(crate) fn close(position: &mut Position, side: Side, lots: Lots)
+    ensures { position.new ≡ closing side lots.number position.old }
 {
     match side {
-        Side::Bought => position.bought = position.bought.saturating_sub(lots),
-        Side::Written => position.written = position.written.saturating_sub(lots),
+        Side::Bought => position.bought = position.bought.saturating_sub(lots.number),
+        Side::Written => position.written = position.written.saturating_sub(lots.number),
     }
     unlock(position, side, lots);
 }
 
 // Locks lots on a side.
-pub(crate) fn lock(position: &mut Position, side: Side, lots: u32)
-    requires few { (lots ≤ 1000) × (locked_on side position.old ≤ 11000) }
-    ensures { position.new ≡ locking side lots position.old }
+pub(crate) fn lock(position: &mut Position, side: Side, lots: Lots)
+    requires { locked_on side position.old ≤ 11000 }
+    ensures { position.new ≡ locking side lots.number position.old }
 {
     match side {
-        Side::Bought => position.locked_bought += lots,
-        Side::Written => position.locked_written += lots,
+        Side::Bought => position.locked_bought += lots.number,
+        Side::Written => position.locked_written += lots.number,
     }
 }
 
 // Unlocks lots on a side.
-pub(crate) fn unlock(position: &mut Position, side: Side, lots: u32)
-    ensures { position.new ≡ unlocking side lots position.old }
+pub(crate) fn unlock(position: &mut Position, side: Side, lots: Lots)
+    ensures { position.new ≡ unlocking side lots.number position.old }
 {
+    let lots = lots.number;
     match side {
         Side::Bought => position.locked_bought = position.locked_bought.saturating_sub(lots),
         Side::Written => position.locked_written = position.locked_written.saturating_sub(lots),

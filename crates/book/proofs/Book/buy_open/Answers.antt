@@ -1,34 +1,10 @@
-use Rattle.std.proofs.Common.{◌≡◌, [], ◌∷◌, None, refl, subst}
+use Rattle.ledger.proofs.Running.{calls_keep}
+use Rattle.std.proofs.Common.{rules}
 use Rattle.margin.specs.Meaning.{Meaning, meaning}
 use Rattle.ledger.specs.declared.call.Call.TheVariants.{BuyOpen}
-use Rattle.ledger.specs.declared.tables.Position.{Position}
-use Rattle.ledger.specs.Tests.{first_met}
-use Rattle.book.proofs.Answering.{answered}
-use Rattle.book.proofs.Lawful.{funds_fit}
-use Rattle.book.proofs.Ordering.{buy_open, entered, unit_amount, here}
 use Rattle.book.proofs.Book.buy_open.Goals as goal
 
-pub premium-reserve-requires : goal.premium-reserve-requires
-premium-reserve-requires g c = let h = c.in_ok-listed.ensures in record { lots = h.ranges.3; price = h.ranges.5 }
-
-pub enter-requires : goal.enter-requires
-enter-requires g c =
+pub returns-clause-law : goal.returns-clause-law
+returns-clause-law g c =
     let m : Meaning = meaning g.S.LegScale.leg_of g.S.CombinationScale.pair_of c.args.scale.now in
-    let k = c.requires.its_scale in
-    record { funds = funds_fit m c.args.self.now.tables k.0 k.1 }
-
-pub returns : goal.returns
-returns g c =
-    let b = c.args.self.now.tables in
-    let a = c.args.account in
-    let code = c.args.contract in
-    let lots = c.args.lots in
-    let limit = c.args.limit in
-    let m : Meaning = meaning g.S.LegScale.leg_of g.S.CombinationScale.pair_of c.args.scale.now in
-    let h = c.in_ok-listed.ensures in
-    let listed = c.in_ok-listed.listed in
-    let order = buy_open m b a code lots limit in
-    let own = subst (λ (p : Position). first_met (order.own p ∷ []) ≡ None) (here b code lots listed h.found a c.position_row.result c.position_row.ensures.is) c.in_ok-check_room.ensures in
-    let r = c.enter.result in
-    let after = c.enter.new.self.tables in
-    answered m b (BuyOpen a code lots limit) r after (entered b a code lots limit order h.tests own c.premium-reserve.result (unit_amount b code lots listed h.found limit c.premium-reserve.result c.premium-reserve.ensures.reserve) refl r after c.enter.ensures)
+    calls_keep m c.args.self.now.tables (BuyOpen c.args.account c.args.contract c.args.lots c.args.limit) _ _ (search rules)

@@ -1,95 +1,25 @@
-use Rattle.std.proofs.Common.{◌≡◌, ℕ, ◌+◌, ◌*◌, Some, None, Ok, Err, Option, sym, refl, ap, ◌∙◌, subst, arith}
-use Rattle.std.proofs.lemmas.Bool.{ltb-false}
-use Rattle.register.specs.Rows.{lookup, changed}
+use Rattle.std.proofs.Common.{◌≡◌, ℕ, ◌+◌, ◌*◌, Some, None, Ok, Err, Option, sym, ap, ◌∙◌, subst}
+use Rattle.register.specs.Rows.{changed}
 use Rattle.margin.specs.Meaning.{Meaning, meaning}
 use Rattle.ledger.specs.declared.call.Call.TheVariants.{LegClose}
 use Rattle.ledger.specs.declared.order.Combination.{Combination}
 use Rattle.ledger.specs.declared.order.Order.{Order}
 use Rattle.ledger.specs.declared.order.OrderKind.TheVariants.{LegClose as LegCloseKind}
-use Rattle.ledger.specs.declared.refusal.Refusal.TheVariants.{NotStanding}
 use Rattle.ledger.specs.CombinationRules.{leg_checks, leg_close_tests, leg_close_per_lot, LegCloseRule}
 use Rattle.ledger.specs.Moves.{combinations_to, with_lots}
 use Rattle.ledger.specs.OrderRules.{enter_tests, OrderTaken}
 use Rattle.ledger.specs.Refusals.{number_of}
 use Rattle.ledger.specs.Tests.{ByTests, first_met, Standing}
-use Rattle.ledger.proofs.Tests.{unmet}
 use Rattle.book.proofs.Answering.{answered, passed_on}
-use Rattle.book.proofs.Engaging.{no_terms, none_stands, no_leg, past_leg, changed_after}
-use Rattle.book.proofs.Lawful.{combination_sound, funds_within}
+use Rattle.book.proofs.Engaging.{past_leg, changed_after}
+use Rattle.book.proofs.Lawful.{combination_sound}
 use Rattle.book.proofs.Book.leg_close.Goals as goal
 
-pub check_leg-requires : goal.check_leg-requires
-check_leg-requires g c = c.in_ok-check_contract.ensures.ranges.0
-
-pub leg_close_reserve-requires : goal.leg_close_reserve-requires
-leg_close_reserve-requires g c =
+pub leg_close_reserve-per_lot-requires : goal.leg_close_reserve-per_lot-requires
+leg_close_reserve-per_lot-requires g c =
     let m : Meaning = meaning g.S.LegScale.leg_of g.S.CombinationScale.pair_of c.args.scale.now in
-    let b = c.args.self.now.tables in
-    let n = c.args.combination in
-    let code = c.args.leg in
-    let lots = c.args.lots in
-    let limit = c.args.limit in
     let k = c.requires.its_scale in
-    let entry = c.in-Some.entry in
-    let s = combination_sound m b k.0 k.1 n entry (sym c.in-Some.ensures) in
-    record { fitted = s.fitted; limit = c.in_ok-check_contract.ensures.ranges.3 }
-
-pub times-reserve-requires : goal.times-reserve-requires
-times-reserve-requires g c = record { lots = c.in_ok-check_contract.ensures.ranges.1; per_lot = c.leg_close_reserve.ensures.most }
-
-pub enter-requires : goal.enter-requires
-enter-requires g c =
-    let m : Meaning = meaning g.S.LegScale.leg_of g.S.CombinationScale.pair_of c.args.scale.now in
-    let b = c.args.self.now.tables in
-    let n = c.args.combination in
-    let code = c.args.leg in
-    let lots = c.args.lots in
-    let limit = c.args.limit in
-    let k = c.requires.its_scale in
-    let f = funds_within m b k.0 k.1 in
-    omega (arith, f.balance, f.reserved)
-
-pub engage-engaged-requires : goal.engage-engaged-requires
-engage-engaged-requires g c =
-    let entry = c.in-Some.entry in
-    let u = unmet (leg_checks c.args.self.now.tables entry c.args.leg c.args.lots) c.in_ok-check_leg.ensures in
-    omega (arith, ltb-false _ _ u.1.0, c.in_ok-check_contract.ensures.ranges.0)
-
-pub returns-in_default : goal.returns-in_default
-returns-in_default g c =
-    let m : Meaning = meaning g.S.LegScale.leg_of g.S.CombinationScale.pair_of c.args.scale.now in
-    let b = c.args.self.now.tables in
-    let n = c.args.combination in
-    let code = c.args.leg in
-    let lots = c.args.lots in
-    let limit = c.args.limit in
-    let a : LegCloseRule m b n code lots limit (Err NotStanding) b = (subst (λ o. first_met (leg_close_tests m b o code lots limit) ≡ Some 16) c.in_default.ensures (none_stands m b code lots limit c.in_ok-check_contract.ensures.tests), refl) in
-    answered m b (LegClose n code lots limit) (Err NotStanding) b a
-
-pub returns-in_err-check_contract : goal.returns-in_err-check_contract
-returns-in_err-check_contract g c =
-    let m : Meaning = meaning g.S.LegScale.leg_of g.S.CombinationScale.pair_of c.args.scale.now in
-    let b = c.args.self.now.tables in
-    let n = c.args.combination in
-    let code = c.args.leg in
-    let lots = c.args.lots in
-    let limit = c.args.limit in
-    let e = c.in_err-check_contract.field-0.0 in
-    let a : LegCloseRule m b n code lots limit (Err e) b = (no_terms m b code lots limit (lookup b.combinations n) (number_of e) c.in_err-check_contract.ensures.tests, refl) in
-    passed_on m b (LegClose n code lots limit) c.from_residual.result e b c.from_residual.ensures.1 a
-
-pub returns-in_err-check_leg : goal.returns-in_err-check_leg
-returns-in_err-check_leg g c =
-    let m : Meaning = meaning g.S.LegScale.leg_of g.S.CombinationScale.pair_of c.args.scale.now in
-    let b = c.args.self.now.tables in
-    let n = c.args.combination in
-    let code = c.args.leg in
-    let lots = c.args.lots in
-    let limit = c.args.limit in
-    let entry = c.in-Some.entry in
-    let e = c.in_err-check_leg.field-0.0 in
-    let a : LegCloseRule m b n code lots limit (Err e) b = (subst (λ o. first_met (leg_close_tests m b o code lots limit) ≡ Some (number_of e)) c.in-Some.ensures (no_leg m b code lots limit c.in_ok-check_contract.ensures.tests entry (number_of e) c.in_err-check_leg.ensures), refl) in
-    passed_on m b (LegClose n code lots limit) c.from_residual-in_err-check_leg.result e b c.from_residual-in_err-check_leg.ensures.1 a
+    (combination_sound m c.args.self.now.tables k.0 k.1 c.args.combination c.in-Some.entry (sym c.in-Some.ensures)).fitted
 
 pub returns-in_err-answer : goal.returns-in_err-answer
 returns-in_err-answer g c =
@@ -100,11 +30,13 @@ returns-in_err-answer g c =
     let lots = c.args.lots in
     let limit = c.args.limit in
     let entry = c.in-Some.entry in
+    let are = c.in_ok-terms.ensures.are in
+    let leg_good = subst (λ x. first_met (leg_checks b entry code x) ≡ None) are.0 c.in_ok-check_leg.ensures in
     let amount : ℕ = lots * leg_close_per_lot m b entry code limit in
-    let amount_is : c.times-reserve.result ≡ amount = c.times-reserve.ensures.is ∙ ap (λ x. lots * x) c.leg_close_reserve.ensures.is in
+    let amount_is : c.times-reserve.result ≡ amount = c.times-reserve.ensures.is ∙ ap (λ x. x * c.leg_close_reserve-per_lot.result) are.0 ∙ ap (λ x. lots * x) (c.leg_close_reserve-per_lot.ensures.is ∙ ap (λ x. leg_close_per_lot m b entry code x) are.1) in
     let met = c.in_err-answer.ensures in
     let e = c.in_err-answer.field-0.0 in
-    let a : LegCloseRule m b n code lots limit (Err e) c.enter.new.self.tables = (subst (λ o. first_met (leg_close_tests m b o code lots limit) ≡ Some (number_of e)) c.in-Some.ensures (past_leg m b code lots limit c.in_ok-check_contract.ensures.tests entry c.in_ok-check_leg.ensures ∙ ap (λ x. first_met (enter_tests b x)) (sym amount_is) ∙ met.0), met.1) in
+    let a : LegCloseRule m b n code lots limit (Err e) c.enter.new.self.tables = (subst (λ o. first_met (leg_close_tests m b o code lots limit) ≡ Some (number_of e)) c.in-Some.ensures (past_leg m b code lots limit c.in_ok-terms.ensures.tests entry leg_good ∙ ap (λ x. first_met (enter_tests b x)) (sym amount_is) ∙ met.0), met.1) in
     passed_on m b (LegClose n code lots limit) c.from_residual-in_err-answer.result e c.enter.new.self.tables c.from_residual-in_err-answer.ensures.1 a
 
 pub returns : goal.returns
@@ -116,8 +48,10 @@ returns g c =
     let lots = c.args.lots in
     let limit = c.args.limit in
     let entry = c.in-Some.entry in
+    let are = c.in_ok-terms.ensures.are in
+    let leg_good = subst (λ x. first_met (leg_checks b entry code x) ≡ None) are.0 c.in_ok-check_leg.ensures in
     let amount : ℕ = lots * leg_close_per_lot m b entry code limit in
-    let amount_is : c.times-reserve.result ≡ amount = c.times-reserve.ensures.is ∙ ap (λ x. lots * x) c.leg_close_reserve.ensures.is in
+    let amount_is : c.times-reserve.result ≡ amount = c.times-reserve.ensures.is ∙ ap (λ x. x * c.leg_close_reserve-per_lot.result) are.0 ∙ ap (λ x. lots * x) (c.leg_close_reserve-per_lot.ensures.is ∙ ap (λ x. leg_close_per_lot m b entry code x) are.1) in
     let t = c.enter.new.self.tables in
     let x = c.in_ok-answer.answer in
     let order : Combination → Order = λ k. record { account = k.account; kind = LegCloseKind n code; lots = lots; limit = limit } in
@@ -125,7 +59,7 @@ returns g c =
     let after = combinations_to c.change.new.rows t.combination_series t in
     let taken : ByTests (enter_tests b amount) b (Ok x) t (OrderTaken (order entry) amount b) = subst (λ y. ByTests (enter_tests b y) b (Ok x) t (OrderTaken (order entry) y b)) amount_is c.in_ok-answer.ensures in
     let moved = changed_after b t n (engaged entry) c.change.new.rows (order entry) amount x (c.change.ensures.leaves ∙ ap (changed t.combinations n) c.engage-engaged.ensures) taken.1 in
-    let tests = past_leg m b code lots limit c.in_ok-check_contract.ensures.tests entry c.in_ok-check_leg.ensures ∙ taken.0 in
+    let tests = past_leg m b code lots limit c.in_ok-terms.ensures.tests entry leg_good ∙ taken.0 in
     let P : Option Combination → Type 0 = λ o. (first_met (leg_close_tests m b o code lots limit) ≡ None) × Standing o (λ k. OrderTaken (order k) (lots * leg_close_per_lot m b k code limit) (combinations_to (changed b.combinations n (engaged k)) b.combination_series b) (Ok x) after) in
     let a : LegCloseRule m b n code lots limit (Ok x) after = subst P c.in-Some.ensures (tests, moved) in
     answered m b (LegClose n code lots limit) (Ok x) after a

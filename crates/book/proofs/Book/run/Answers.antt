@@ -1,5 +1,5 @@
 use Rattle.std.proofs.Common.{get_or, take, sym, subst, arith}
-use Rattle.std.proofs.lemmas.List.{take_more, take_all}
+use Rattle.std.proofs.lemmas.List.{take_more}
 use Rattle.margin.specs.Meaning.{Meaning, meaning}
 use Rattle.ledger.specs.declared.call.Call.TheVariants.{Deposit}
 use Rattle.ledger.specs.Law.{contracts_of}
@@ -23,8 +23,3 @@ loop-call-preserved g c =
       subst (λ cs. Played m b cs after) (sym (take_more c.args.calls.now c.loop-call.call-index (Deposit 0) (omega arith)))
           (one_more m b (take c.loop-call.call-index c.args.calls.now) mid call c.apply.result after c.loop-call.invariant.1 c.apply.ensures.answer),
     )
-
-pub returns : goal.returns
-returns g c =
-    let m : Meaning = meaning g.S.LegScale.leg_of g.S.CombinationScale.pair_of c.args.scale.now in
-    subst (λ cs. Played m c.args.self.now.tables cs c.loop-call.self.tables) (take_all c.loop-call.call-index c.args.calls.now (omega arith)) c.loop-call.invariant.1

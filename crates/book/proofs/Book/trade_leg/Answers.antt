@@ -7,7 +7,7 @@ pub fitted_pair-pair-requires : goal.fitted_pair-pair-requires
 fitted_pair-pair-requires g c = (c.requires.combinations c.args.number c.in-Some.combination (sym c.in-Some.ensures)).fitted
 
 pub leg_close_reserve-reserve-requires : goal.leg_close_reserve-reserve-requires
-leg_close_reserve-reserve-requires g c = record { fitted = (c.requires.combinations c.args.number c.in-Some.combination (sym c.in-Some.ensures)).fitted; limit = c.requires.limit }
+leg_close_reserve-reserve-requires g c = (c.requires.combinations c.args.number c.in-Some.combination (sym c.in-Some.ensures)).fitted
 
 pub row_of-first-requires : goal.row_of-first-requires
 row_of-first-requires g c =
