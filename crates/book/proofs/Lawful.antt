@@ -13,7 +13,7 @@ use Rattle.ledger.specs.Ledger.{Ledger, under}
 use Rattle.ledger.specs.Law.{contracts_of, combination_under, position_of, engaged}
 use Rattle.ledger.specs.Moves.{content}
 use Rattle.ledger.specs.Runs.{Law, SoundCombination, SoundOrder}
-use Rattle.ledger.proofs.Tests.{some_same}
+use Rattle.std.proofs.lemmas.Option.{same_Some}
 use Rattle.book.specs.declared.positions.Side.{Side}
 use Rattle.book.specs.declared.positions.Side.TheVariants.{Bought, Written}
 use Rattle.book.specs.Sides.{locked_on}
@@ -27,7 +27,7 @@ pub record Shown (eng : ℕ) (o : Option Pairing) (k : Combination) : Type 0 whe
 
 shown : (eng : ℕ) (o : Option Pairing) (k : Combination) → combination_under eng o ≡ Some k → Shown eng o k
 shown eng None k e = let z : ◌≡◌ {A = ℕ} 0 1 = cc in absurd (omega arith)
-shown eng (Some p) k e = record { pairing = p; stands = refl; content_is = ap content (some_same e); engaged_is = sym (ap (λ (x : Combination). x.engaged) (some_same e)) }
+shown eng (Some p) k e = record { pairing = p; stands = refl; content_is = ap content (same_Some _ _ e); engaged_is = sym (ap (λ (x : Combination). x.engaged) (same_Some _ _ e)) }
 
 -- what is locked stays small enough for lots more
 pub record FewLocked (p : Position) (most : ℕ) : Type 0 where

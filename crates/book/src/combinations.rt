@@ -30,14 +30,7 @@ fn permission(strategy: Strategy) -> u8
     ensures is { result ≡ 2 ^ (strategy_number strategy - 1) }
     ensures some { 1 ≤ result }
 {
-    match strategy {
-        Strategy::BullCallSpread => 1,
-        Strategy::BearCallSpread => 2,
-        Strategy::BullPutSpread => 4,
-        Strategy::BearPutSpread => 8,
-        Strategy::ShortStraddle => 16,
-        Strategy::ShortStrangle => 32,
-    }
+    1 << (strategy.number() - 1)
 }
 
 // A combination with more of its lots engaged.
@@ -107,7 +100,7 @@ impl Book {
             return Err(Refusal::NotListed);
         };
         let lots = Lots::new(lots)?;
-        let Some(strategy) = Strategy::from_number(strategy) else {
+        let Ok(strategy) = Strategy::try_from(strategy) else {
             return Err(Refusal::LegsDoNotFit);
         };
         let Some(pair) = FittedPair::fit(strategy, &one.contract, &other.contract) else {
