@@ -1,11 +1,13 @@
 // Deposit and withdraw.
-ghost use Rattle.std.specs.Prelude.{ℕ};
+ghost use Rattle.std.specs.Prelude.{ℕ, [], ◌∷◌};
 ghost use Rattle.margin.specs.Meaning.{meaning};
 ghost use Rattle.ledger.specs.declared.call.Call.TheVariants.{Deposit as DepositCall, Withdraw as WithdrawCall};
 ghost use Rattle.ledger.specs.CashRules.{DepositRule, WithdrawRule};
 ghost use Rattle.ledger.specs.Runs.{Kept};
 ghost use Rattle.ledger.specs.Keeps.{KeptBy};
+ghost use Rattle.ledger.specs.Tests.{bad_amount};
 ghost use Rattle.book.specs.Book.{tables_of};
+ghost use Rattle.book.specs.Checks.{Passes};
 
 use crate::Book;
 use crate::parts::MOST_CASH;
@@ -16,6 +18,15 @@ use margin::scale::{CombinationScale, LegScale};
 const LEAST_AMOUNT: u64 = 1;
 
 const MOST_AMOUNT: u64 = 10_000_000_000_000_000;
+
+fn check_amount(amount: u64) -> Result<(), Refusal>
+    ensures { Passes (bad_amount amount ∷ []) result }
+{
+    if amount < LEAST_AMOUNT || amount > MOST_AMOUNT {
+        return Err(Refusal::AmountOutOfRange);
+    }
+    Ok(())
+}
 
 impl Book {
     // Puts an amount into the balance.
@@ -28,9 +39,7 @@ impl Book {
         ensures answer { DepositRule (tables_of self.old) amount result (tables_of self.new) }
         ensures law { KeptBy (meaning S.LegScale.leg_of S.CombinationScale.pair_of scale.now) (tables_of self.old) (DepositCall amount) result (tables_of self.new) }
     {
-        if amount < LEAST_AMOUNT || amount > MOST_AMOUNT {
-            return Err(Refusal::AmountOutOfRange);
-        }
+        check_amount(amount)?;
         let funds = self.tables.funds;
         if funds.cash + amount > MOST_CASH {
             return Err(Refusal::CashLimit);
@@ -50,9 +59,7 @@ impl Book {
         ensures answer { WithdrawRule (tables_of self.old) amount result (tables_of self.new) }
         ensures law { KeptBy (meaning S.LegScale.leg_of S.CombinationScale.pair_of scale.now) (tables_of self.old) (WithdrawCall amount) result (tables_of self.new) }
     {
-        if amount < LEAST_AMOUNT || amount > MOST_AMOUNT {
-            return Err(Refusal::AmountOutOfRange);
-        }
+        check_amount(amount)?;
         let funds = self.tables.funds;
         if funds.balance < amount {
             return Err(Refusal::TooLittleBalance);

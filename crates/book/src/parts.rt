@@ -4,14 +4,12 @@ ghost use Rattle.ledger.specs.Tests.{bad_account, bad_lots, bad_price};
 ghost use Rattle.book.specs.Checks.{Passes};
 
 use ledger::refusal::Refusal;
-use margin::contract::Contract;
+use margin::contract::{Contract, HIGHEST_PRICE};
 
 const ACCOUNTS: u8 = 8;
 
 // The lots that one call moves.
 const MOST_LOTS_MOVED: u32 = 1_000;
-
-const HIGHEST_PRICE: u64 = 10_000_000;
 
 // The cash total never passes this, in hao.
 pub(crate) const MOST_CASH: u64 = 100_000_000_000_000_000;

@@ -8,10 +8,8 @@ ghost use Rattle.book.specs.Sides.{side_of, owned_on, locked_on, free_on, adding
 use crate::parts::{Lots, check_free};
 use ledger::refusal::Refusal;
 use ledger::tables::Position;
+use margin::listing::MOST_CONTRACTS;
 use margin::strategy::Strategy;
-
-// The contracts that a listing has room for.
-const CONTRACTS: usize = 64;
 
 // The side of a position.
 #[derive(Clone, Copy)]
@@ -38,7 +36,7 @@ pub(crate) fn position_row(account: u8, place: usize) -> usize
     ensures is { result ≡ row_place account place }
     ensures inside { result < 512 }
 {
-    (account as usize - 1) * CONTRACTS + place
+    (account as usize - 1) * MOST_CONTRACTS + place
 }
 
 // The lots on a side.

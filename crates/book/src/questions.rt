@@ -54,19 +54,13 @@ impl Book {
     pub fn combination(&self, number: u32) -> Result<Combination, Refusal>
         ensures { EntryAsked (tables_of self.now).combinations number result }
     {
-        let Some(combination) = register::find(&self.tables.combinations, number) else {
-            return Err(Refusal::NotStanding);
-        };
-        Ok(combination)
+        register::find(&self.tables.combinations, number).ok_or(Refusal::NotStanding)
     }
 
     // The working order under a number.
     pub fn order(&self, number: u32) -> Result<Order, Refusal>
         ensures { EntryAsked (tables_of self.now).orders number result }
     {
-        let Some(order) = register::find(&self.tables.orders, number) else {
-            return Err(Refusal::NotStanding);
-        };
-        Ok(order)
+        register::find(&self.tables.orders, number).ok_or(Refusal::NotStanding)
     }
 }

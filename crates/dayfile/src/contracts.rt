@@ -16,7 +16,7 @@ use crate::field::{Column, Field};
 use crate::record::{Record, Span};
 use crate::sections::CONTRACT;
 use ledger::settings::Settings;
-use margin::contract::{Contract, Kind, Right};
+use margin::contract::{Contract, HIGHEST_PRICE, Kind, Right};
 use margin::listing::{Listing, ListingFault};
 
 const CODE: Column = Column { at: 0, width: 4 };
@@ -38,8 +38,6 @@ const SETTLEMENT: Column = Column { at: 20, width: 4 };
 const UNDERLYING_CLOSE: Column = Column { at: 24, width: 4 };
 
 const LISTED_MARGIN: Column = Column { at: 28, width: 4 };
-
-const HIGHEST_PRICE: u64 = 10_000_000;
 
 // A contract does not expire before the day.
 fn fields(day: u16) -> [Field; 10]

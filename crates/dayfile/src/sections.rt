@@ -10,10 +10,9 @@ use crate::bytes::read;
 use crate::fault::{Section, SectionFault};
 use crate::field::Column;
 use crate::record::Span;
+use margin::listing::MOST_CONTRACTS;
 
 const PAIRS: usize = 24;
-
-const MOST_CONTRACTS: usize = 64;
 
 pub(crate) const SETTINGS: usize = 20;
 

@@ -274,9 +274,7 @@ mod tests {
         assert_eq!(rt; judged(&[0; 23]), [1, 0, 0, 0]);
         assert_eq!(rt; judged(&[0; 24]), [2, 1, 0, 0]);
         let mut bytes = packed(rt.alloc(), 0, 2, 11)?;
-        for _ in bytes.len()..60_000 {
-            bytes.push(255)?;
-        }
+        bytes.resize(60_000, 255)?;
         assert_eq!(rt; judged(&bytes), SOUND);
         bytes.push(255)?;
         assert_eq!(rt; judged(&bytes), [1, 0, 0, 0]);

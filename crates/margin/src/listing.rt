@@ -19,6 +19,9 @@ pub struct Listing {
     ghost agreeing: { agreeing_after [] (map terms_of (take count contracts)) ≡ true },
 }
 
+// The contracts that a listing has room for.
+pub const MOST_CONTRACTS: usize = 64;
+
 // A listed contract, with its place in the listing from 0.
 #[derive(Clone, Copy)]
 pub struct Listed {

@@ -5,10 +5,8 @@ ghost use Rattle.margin.specs.Terms.{terms_of};
 ghost use Rattle.margin.specs.Listed.{clashes as clash_of, clashes_any, rising_from, agreeing_after};
 ghost use Rattle.margin.specs.Listing.{listed, listed_terms, Joins, Finds};
 
-use super::{Listed, Listing, ListingFault};
+use super::{Listed, Listing, ListingFault, MOST_CONTRACTS};
 use crate::contract::Contract;
-
-const MOST: usize = 64;
 
 // Whether two contracts have one underlying, and another kind or close of it.
 fn clash(earlier: &Contract, later: &Contract) -> bool
@@ -31,7 +29,7 @@ impl Listing {
         ensures { listed result ≡ first ∷ [] }
     {
         Listing {
-            contracts: [first; MOST],
+            contracts: [first; MOST_CONTRACTS],
             count: 1,
         }
     }
@@ -65,7 +63,7 @@ impl Listing {
         ensures { Joins self.old next result self.new }
     {
         let count = self.count;
-        if count >= MOST {
+        if count >= MOST_CONTRACTS {
             return Err(ListingFault::Full);
         }
         if next.code <= self.contracts[count - 1].code {
