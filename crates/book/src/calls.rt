@@ -11,7 +11,8 @@ use ledger::refusal::Refusal;
 use margin::scale::CombinationScale;
 
 impl Book {
-    // Makes a call: the one of the eleven that it names.
+    // Makes a call: the one of the eleven that it names. A match, since the calls are a closed enum, each with fields of its own.
+    // By rule a call's answer is two numbers together, and the one that it gives is 0 where it gives none, so it is no Option.
     pub fn apply<S: CombinationScale>(
         &mut self,
         scale: &S,

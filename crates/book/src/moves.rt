@@ -81,6 +81,7 @@ impl Book {
     }
 
     // Takes lots off a combination, some of them engaged; with none left it is removed.
+    // Close to take_off_order, but for the engaged lots: one text over a trait for both entries would be longer than the two.
     pub(crate) fn take_off_combination(
         &mut self,
         number: u32,

@@ -1,4 +1,5 @@
 // Sell open, buy open, buy close and sell close.
+// Four calls by rule: they share check_terms, check_room or check_free_lots, enter and lock, and differ in reserve and kind besides.
 ghost use Rattle.std.specs.Prelude.{◌≡◌, ℕ, ◌+◌, ◌*◌, ◌^◌, ◌<◌, ◌≤◌, [], ◌∷◌, length, IfOk, OnOk};
 ghost use Rattle.margin.specs.ByCode.{by_code, index};
 ghost use Rattle.margin.specs.Meaning.{meaning};

@@ -44,6 +44,7 @@ pub enum FileFault {
 }
 
 // The four numbers of a fault: its number, the section (0 for the file), the record there (from 1, else 0) and the byte's place.
+// By rule a fault is told by these numbers, the 0s among them: the faults above are the enums that they are made from.
 #[derive(Clone, Copy, PartialEq, Eq)]
 pub struct Fault {
     pub number: u8,
@@ -120,6 +121,7 @@ impl From<FileFault> for Fault {
 }
 
 impl Section {
+    // A cast under its name, as in the other enums with numbers: `u8::from` would be no plainer.
     pub fn number(self) -> u8
         ensures { result ≡ section_number self }
     {
@@ -146,6 +148,7 @@ impl Section {
 }
 
 impl Breach {
+    // As above: `u8::from` would be no plainer.
     pub fn number(self) -> u8
         ensures { result ≡ breach_number self }
     {

@@ -142,7 +142,7 @@ impl Call {
         }
     }
 
-    // The call's number, as a day file has it.
+    // The call's number, as a day file has it: a cast under its name, since `u8::from` would be no plainer.
     pub fn number(&self) -> u8
         ensures { result ≡ call_number self.now }
     {

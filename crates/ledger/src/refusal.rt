@@ -26,6 +26,7 @@ pub enum Refusal {
 }
 
 impl Refusal {
+    // A cast under its name: `u8::from` would be no plainer.
     pub fn number(self) -> u8
         ensures { result ≡ number_of self }
     {

@@ -28,6 +28,7 @@ impl TryFrom<u8> for BaseScale {
 
 // The first raise stands on the base scale, the second on the first. Bit 0 of `permitted` lets leg closes of
 // strategy 1, bit 5 those of strategy 6. The opening balance is whole hao (0.0001 yuan).
+// `permitted` stays the day file's byte: the book asks one bit of it in one place, and a type for it would be no plainer.
 #[derive(Clone, Copy)]
 pub struct Settings {
     pub scale: BaseScale,

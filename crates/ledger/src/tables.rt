@@ -23,7 +23,7 @@ pub struct Funds {
 }
 
 // Row (account - 1) * 64 + place holds the lots of an account and the contract listed at that place, from 0. Bit 0 of
-// `permitted` lets leg closes of strategy 1.
+// `permitted` lets leg closes of strategy 1. Rows are arrays with numbers by rule, so that no call allocates.
 #[derive(Drop)]
 pub struct Tables {
     pub listing: Listing,

@@ -34,7 +34,7 @@ impl TryFrom<u8> for Strategy {
 }
 
 impl Strategy {
-    // The strategy's number.
+    // The strategy's number: a cast under its name, since `u8::from` would be no plainer.
     pub fn number(self) -> u8
         ensures is { result ≡ strategy_number self }
         ensures inverse { strategy_of result ≡ Some self }

@@ -10,6 +10,7 @@ pub enum RegisterRefusal {
 }
 
 impl RegisterRefusal {
+    // A cast under its name: `u8::from` would be no plainer.
     pub fn number(self) -> u8
         ensures { result ≡ number_of self }
     {

@@ -91,6 +91,7 @@ pub fn replay(heap: Global, bytes: &[u8]) -> Result<Report, Failure>
     ensures { Replayed bytes.now result }
 {
     let file = DayFile::read(bytes)?;
+    // A match, since the two base scales are types of their own.
     Ok(match file.settings().scale {
         BaseScale::Standard => play_raised(heap, &file, StandardScale)?,
         BaseScale::Listed => play_raised(heap, &file, ListedScale)?,
