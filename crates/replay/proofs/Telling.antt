@@ -97,9 +97,9 @@ module _ (m : Meaning) (s : Settings) (cs : List Contract) (first : Tables) wher
       }
 
 -- the line of the call at k, put behind those of the first k
-pub numbered_more : (m : Meaning) (bytes : List ℕ) (k : ℕ) (lines : List CallLine) (line : CallLine) (now after : Tables) (place : ℕ) (c : Call) → place ≡ k + 1 → c ≡ call_at bytes k →
-    LineOf m now place c line after → map place_and_call lines ≡ numbered_calls bytes k → map place_and_call (lines ++ line ∷ []) ≡ numbered_calls bytes (k + 1)
-numbered_more m bytes k lines line now after place c at is told so = rw (map-append, so, told.place_is, told.call_is, at, is, add-one) refl
+pub numbered_more : (m : Meaning) (bytes : List ℕ) (k : ℕ) (lines : List CallLine) (line : CallLine) (now after : Tables) (place : ℕ) (c : Call) → LineOf m now place c line after → place ≡ k + 1 → c ≡ call_at bytes k →
+    map place_and_call lines ≡ numbered_calls bytes k → map place_and_call (lines ++ line ∷ []) ≡ numbered_calls bytes (k + 1)
+numbered_more m bytes k lines line now after place c told at is so = rw (map-append, so, told.place_is, told.call_is, at, is, add-one) refl
 
 -- the report of a file that was read from the bytes is theirs, over the base scale that its settings name
 pub reported : (bytes : List ℕ) (d : DayFile) (s : Settings) (scale : BaseScale) (report : Report) → Says bytes d → s ≡ d.settings → s.scale ≡ scale →

@@ -1,4 +1,4 @@
-use Rattle.std.proofs.Common.{◌+◌, length, map, vec_items, sym, ap, ◌∙◌, subst, arith}
+use Rattle.std.proofs.Common.{length, map, vec_items, sym, ap, ◌∙◌, subst, arith}
 use Rattle.std.proofs.lemmas.List.{length_push}
 use Rattle.margin.specs.Listing.{listed}
 use Rattle.margin.specs.Meaning.{Meaning, meaning}
@@ -27,14 +27,13 @@ loop-call-preserved g c =
     let line = c.play_call.result in
     let now = c.loop-call.book.tables in
     let after = c.play_call.new.book.tables in
-    let place = c.len-place.result + 1 in
     let inv = c.loop-call.invariant in
     let gives = c.in-Some.ensures.steps in
     let more = length_push c.loop-call.yielded c.in-Some.call in record {
-      told = rw c.in_ok-push.ensures.items (one_told m d.settings (listed d.listing) c.open-book.result.tables lines line now after place c.in-Some.call inv.told c.play_call.ensures.line c.play_call.ensures.law);
+      told = rw c.in_ok-push.ensures.items (one_told m d.settings (listed d.listing) c.open-book.result.tables lines line now after _ c.in-Some.call inv.told c.play_call.ensures.line c.play_call.ensures.law);
       many = omega (arith, c.in_ok-push.ensures.len, more, inv.many);
       calls = λ bytes says. rw (c.in_ok-push.ensures.items, more)
-          (numbered_more m bytes k lines line now after place c.in-Some.call (omega (arith, c.len-place.ensures, inv.many)) (call_is d k c.loop-call.call-iterator c.next.new.self inv.at bytes says c.in-Some.call gives) c.play_call.ensures.line (inv.calls bytes says));
+          (numbered_more m bytes k lines line now after _ c.in-Some.call c.play_call.ensures.line (omega (arith, c.len-place.ensures, inv.many)) (call_is d k c.loop-call.call-iterator c.next.new.self inv.at bytes says c.in-Some.call gives) (inv.calls bytes says));
       at = rw more (calls_moved d k c.loop-call.call-iterator c.next.new.self inv.at c.in-Some.call gives);
     }
 
