@@ -1,7 +1,7 @@
 // A listed option contract. It exists only with every field in its range.
 ghost use Rattle.std.specs.Prelude.{◌≤◌};
 
-// In hao: of a strike, a settlement and a close, and of what an order or a fill names.
+// In hao. It bounds strikes, settlements and closes, and the limits and prices of calls.
 pub const HIGHEST_PRICE: u64 = 10_000_000;
 
 #[derive(Clone, Copy, PartialEq, Eq)]
