@@ -103,7 +103,7 @@ impl TryFrom<u8> for CallKind {
 }
 
 impl CallKind {
-    // The kind's name, as a report has it.
+    // The kind's name, as a report has it: a table of texts, which a line's `Display` writes, and one of its own would be no plainer.
     pub fn name(self) -> &'static str
         ensures { result.now ≡ kind_name self }
     {
