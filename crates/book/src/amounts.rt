@@ -1,5 +1,5 @@
 // What lots of a contract, an order or a combination cost, in hao.
-ghost use Rattle.std.specs.Prelude.{◌≡◌, ℕ, ◌+◌, ◌*◌, ◌^◌, ◌≤◌, Some as Just};
+ghost use Rattle.std.specs.Prelude.{◌≡◌, ◌+◌, ◌*◌, ◌^◌, ◌≤◌, Some as Just};
 ghost use Rattle.margin.specs.ByCode.{by_code};
 ghost use Rattle.margin.specs.Meaning.{meaning};
 ghost use Rattle.ledger.specs.Amounts.{premium as premium_of, other_leg_margin, leg_close_reserve};

@@ -1,5 +1,5 @@
 // Deposit and withdraw.
-ghost use Rattle.std.specs.Prelude.{ℕ, [], ◌∷◌};
+ghost use Rattle.std.specs.Prelude.{[], ◌∷◌};
 ghost use Rattle.margin.specs.Meaning.{meaning};
 ghost use Rattle.ledger.specs.declared.call.Call.TheVariants.{Deposit as DepositCall, Withdraw as WithdrawCall};
 ghost use Rattle.ledger.specs.CashRules.{DepositRule, WithdrawRule};

@@ -1,5 +1,5 @@
 // Combine, release and leg close.
-ghost use Rattle.std.specs.Prelude.{◌≡◌, ℕ, ◌+◌, ◌-◌, ◌^◌, ◌<◌, ◌≤◌, ◌||◌, [], ◌∷◌, IfOk, OnOk, nat_lt};
+ghost use Rattle.std.specs.Prelude.{◌≡◌, ◌+◌, ◌-◌, ◌^◌, ◌<◌, ◌≤◌, ◌||◌, [], ◌∷◌, IfOk, OnOk, nat_lt};
 ghost use Rattle.margin.specs.Meaning.{meaning};
 ghost use Rattle.margin.specs.Strategies.{strategy_number, strategy_of};
 ghost use Rattle.ledger.specs.declared.call.Call.TheVariants.{Combine as CombineCall, LegClose as LegCloseCall, Release as ReleaseCall};

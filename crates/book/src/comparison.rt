@@ -1,5 +1,5 @@
 // Two books side by side.
-ghost use Rattle.std.specs.Prelude.{◌≡◌, true, ◌==◌};
+ghost use Rattle.std.specs.Prelude.{◌≡◌, ◌==◌};
 ghost use Rattle.margin.specs.Meaning.{meaning};
 ghost use Rattle.ledger.specs.Runs.{Kept};
 ghost use Rattle.book.specs.Book.{tables_of};

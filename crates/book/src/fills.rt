@@ -1,5 +1,5 @@
 // Fill and cancel.
-ghost use Rattle.std.specs.Prelude.{◌≡◌, ℕ, ◌^◌, ◌<◌, ◌≤◌};
+ghost use Rattle.std.specs.Prelude.{◌≡◌, ◌^◌, ◌<◌, ◌≤◌};
 ghost use Rattle.margin.specs.Meaning.{meaning};
 ghost use Rattle.ledger.specs.declared.call.Call.TheVariants.{Fill as FillCall, Cancel as CancelCall};
 ghost use Rattle.ledger.specs.Content.{contract_of as contract_in, sells as sells_in};

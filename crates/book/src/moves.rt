@@ -1,5 +1,5 @@
 // The movements that calls are made of: funds, and lots off an order or a combination.
-ghost use Rattle.std.specs.Prelude.{◌≡◌, ℕ, ◌^◌, ◌<◌, ◌≤◌};
+ghost use Rattle.std.specs.Prelude.{◌≡◌, ◌^◌, ◌<◌, ◌≤◌};
 ghost use Rattle.ledger.specs.FillRules.{fill_funds};
 ghost use Rattle.ledger.specs.Law.{contracts_of, position_row as row_of};
 ghost use Rattle.ledger.specs.Moves.{funds_to, orders_to, combinations_to, order_rest, combination_rest};

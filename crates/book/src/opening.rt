@@ -1,5 +1,4 @@
 // Opening a book.
-ghost use Rattle.std.specs.Prelude.{ℕ};
 ghost use Rattle.margin.specs.Listing.{listed};
 ghost use Rattle.margin.specs.Meaning.{Meaning};
 ghost use Rattle.ledger.specs.Ledger.{opening_ledger};

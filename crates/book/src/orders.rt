@@ -1,7 +1,6 @@
 // Sell open, buy open, buy close and sell close.
 // Four calls by rule: they share check_terms, check_room or check_free_lots, enter and lock, and differ in reserve and kind besides.
-ghost use Rattle.std.specs.Prelude.{◌≡◌, ℕ, ◌+◌, ◌*◌, ◌^◌, ◌<◌, ◌≤◌, [], ◌∷◌, length, IfOk, OnOk};
-ghost use Rattle.margin.specs.ByCode.{by_code, index};
+ghost use Rattle.std.specs.Prelude.{◌≡◌, ◌+◌, ◌^◌, ◌<◌, ◌≤◌, [], ◌∷◌, length, IfOk, OnOk};
 ghost use Rattle.margin.specs.Meaning.{meaning};
 ghost use Rattle.ledger.specs.declared.call.Call.TheVariants.{SellOpen as SellOpenCall, BuyOpen as BuyOpenCall, BuyClose as BuyCloseCall, SellClose as SellCloseCall};
 ghost use Rattle.ledger.specs.CombinationRules.{leg_terms_tests};

@@ -1,5 +1,5 @@
 // Checks and checked values that several calls share.
-ghost use Rattle.std.specs.Prelude.{◌≡◌, ℕ, ◌+◌, ◌-◌, ◌*◌, ◌^◌, ◌≤◌, [], ◌∷◌, IfOk, nat_lt};
+ghost use Rattle.std.specs.Prelude.{◌≡◌, ◌+◌, ◌-◌, ◌*◌, ◌^◌, ◌≤◌, [], ◌∷◌, IfOk, nat_lt};
 ghost use Rattle.ledger.specs.Tests.{bad_account, bad_lots, bad_price};
 ghost use Rattle.book.specs.Checks.{Passes};
 

@@ -1,5 +1,5 @@
 // The lots of one position, by side.
-ghost use Rattle.std.specs.Prelude.{◌≡◌, ℕ, ◌-◌, ◌<◌, ◌≤◌, [], ◌∷◌, nat_lt};
+ghost use Rattle.std.specs.Prelude.{◌≡◌, ◌-◌, ◌<◌, ◌≤◌, [], ◌∷◌, nat_lt};
 ghost use Rattle.margin.specs.Strategies.{first_written};
 ghost use Rattle.ledger.specs.Law.{place as row_place};
 ghost use Rattle.book.specs.Checks.{Passes};

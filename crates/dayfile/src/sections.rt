@@ -1,5 +1,5 @@
 // Where the three sections stand.
-ghost use Rattle.std.specs.Prelude.{◌≡◌, ℕ, ◌+◌, ◌^◌, ◌<◌, ◌≤◌, length, IfOk};
+ghost use Rattle.std.specs.Prelude.{◌≡◌, ◌+◌, ◌^◌, ◌<◌, ◌≤◌, length, IfOk};
 ghost use Rattle.dayfile.specs.Bytes.{value};
 ghost use Rattle.dayfile.specs.Layout.{column};
 ghost use Rattle.dayfile.specs.Faults.{SectionPassed, section_number, length_place};

@@ -1,7 +1,6 @@
 // Why a call is refused.
 ghost use Rattle.std.specs.Prelude.{◌≡◌};
 ghost use Rattle.ledger.specs.Refusals.{number_of};
-ghost use Rattle.ledger.specs.declared.refusal.Refusal.TheVariants.{NotStanding as Absent, NoFreeRow as NoRow, NumbersUsedUp as NoNumber};
 ghost use Rattle.ledger.specs.Refusals.{by_register};
 
 use register::refusal::RegisterRefusal;

@@ -1,5 +1,5 @@
 // The settings record.
-ghost use Rattle.std.specs.Prelude.{◌≡◌, ℕ, ◌+◌, ◌^◌, ◌<◌, ◌≤◌, length, IfOk};
+ghost use Rattle.std.specs.Prelude.{◌≡◌, ◌<◌, length, IfOk};
 ghost use Rattle.dayfile.specs.Faults.{SectionPassed, section_number};
 ghost use Rattle.dayfile.specs.Fields.{fields_fault, Kept, values};
 ghost use Rattle.dayfile.specs.Layout.{settings_fields};

@@ -1,8 +1,8 @@
 // A listing is begun with one contract and grows by one at a time.
-ghost use Rattle.std.specs.Prelude.{◌≡◌, true, [], ◌∷◌, map, length};
+ghost use Rattle.std.specs.Prelude.{◌≡◌, true, [], ◌∷◌};
 ghost use Rattle.std.specs.List.{list_any};
 ghost use Rattle.margin.specs.Terms.{terms_of};
-ghost use Rattle.margin.specs.Listed.{clashes as clash_of, clashes_any, rising_from, agreeing_after};
+ghost use Rattle.margin.specs.Listed.{clashes as clash_of, rising_from, agreeing_after};
 ghost use Rattle.margin.specs.Listing.{listed, listed_terms, Joins, Finds};
 
 use super::{Listed, Listing, ListingFault, MOST_CONTRACTS};

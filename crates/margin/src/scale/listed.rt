@@ -24,7 +24,8 @@ impl LegScale for ListedScale {
     }
 }
 
-// The standard scale's text again: a default of `pair_of` cannot name `leg_of`, and one impl for all leg scales overlaps the raised.
+// The standard scale's text again, since a default of `pair_of` cannot name `leg_of`, and one impl for all leg scales would overlap
+// the raised scale's, which Rust refuses.
 impl CombinationScale for ListedScale {
     ghost pair_of = { λ s. listed_meaning.pair };
 
