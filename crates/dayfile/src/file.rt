@@ -1,4 +1,5 @@
 // What a sound day file says: its settings, its listing, and its calls.
+ghost use Rattle.std.specs.Prelude.{◌≤◌, length};
 ghost use Rattle.dayfile.specs.Numbered.{Numbered};
 
 use ledger::settings::Settings;
@@ -12,6 +13,7 @@ pub struct DayFile<'a> {
     settings: Settings,
     listing: Listing,
     calls: &'a [u8],
+    ghost calls_inside: { length calls.now ≤ 60000 },
     ghost numbered: { Numbered calls.now },
 }
 
