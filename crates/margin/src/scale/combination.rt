@@ -17,32 +17,50 @@ fn lot_of(price: u32, contract: &Contract) -> u64
     u64::from(price) * u64::from(contract.unit)
 }
 
+// A leg of a pair, and the margin of one written lot of it.
+#[derive(Clone, Copy)]
+struct Leg<'a> {
+    contract: &'a Contract,
+    margin: u64,
+    ghost at_most: { margin ≤ 10 ^ 14 },
+}
+
+impl<'a> Leg<'a> {
+    fn of<L: LegScale>(legs: &L, contract: &'a Contract) -> Leg<'a>
+        ensures contract { result.contract.now ≡ contract.now }
+        ensures margin { result.margin ≡ L.leg_of legs.now contract.now }
+    {
+        Leg {
+            contract,
+            margin: legs.leg(contract),
+        }
+    }
+}
+
 // The settlement of the leg with the lower leg margin; where they are equal, the larger settlement.
-fn lower_leg_settlement(first: &Contract, second: &Contract, first_leg: u64, second_leg: u64) -> u32
-    ensures is { result ≡ lower_leg_settlement first.now second.now first_leg second_leg }
+fn lower_leg_settlement(first: &Leg, second: &Leg) -> u32
+    ensures is { result ≡ lower_leg_settlement first.now.contract.now second.now.contract.now first.now.margin second.now.margin }
     ensures at_most { result ≤ 10 ^ 7 }
 {
-    match first_leg.cmp(&second_leg) {
-        Ordering::Less => first.settlement,
-        Ordering::Greater => second.settlement,
-        Ordering::Equal => first.settlement.max(second.settlement),
+    match first.margin.cmp(&second.margin) {
+        Ordering::Less => first.contract.settlement,
+        Ordering::Greater => second.contract.settlement,
+        Ordering::Equal => first.contract.settlement.max(second.contract.settlement),
     }
 }
 
 // The larger leg margin, and one lot of the lower leg's settlement.
-fn straddle_margin(first: &Contract, second: &Contract, first_leg: u64, second_leg: u64) -> u64
-    requires { (first_leg ≤ 10 ^ 14) × (second_leg ≤ 10 ^ 14) }
-    ensures is { result ≡ straddle_margin first.now second.now first_leg second_leg }
+fn straddle_margin(first: &Leg, second: &Leg) -> u64
+    ensures is { result ≡ straddle_margin first.now.contract.now second.now.contract.now first.now.margin second.now.margin }
     ensures at_most { result ≤ 2 * 10 ^ 14 }
 {
-    let settlement = lower_leg_settlement(first, second, first_leg, second_leg);
-    first_leg.max(second_leg) + lot_of(settlement, first)
+    let settlement = lower_leg_settlement(first, second);
+    first.margin.max(second.margin) + lot_of(settlement, first.contract)
 }
 
 // The pair's margin before it is rounded, from the margins of its legs.
-fn raw_margin(pair: &FittedPair, first_leg: u64, second_leg: u64) -> u64
-    requires { (first_leg ≤ 10 ^ 14) × (second_leg ≤ 10 ^ 14) }
-    ensures is { result ≡ raw_margin pair.now.strategy pair.now.first pair.now.second first_leg second_leg }
+fn raw_margin<L: LegScale>(legs: &L, pair: &FittedPair) -> u64
+    ensures is { result ≡ raw_margin pair.now.strategy pair.now.first pair.now.second (L.leg_of legs.now pair.now.first) (L.leg_of legs.now pair.now.second) }
     ensures at_most { result ≤ 2 * 10 ^ 14 }
 {
     let FittedPair {
@@ -55,7 +73,7 @@ fn raw_margin(pair: &FittedPair, first_leg: u64, second_leg: u64) -> u64
         Strategy::BearCallSpread => lot_of(first.strike - second.strike, first),
         Strategy::BullPutSpread => lot_of(second.strike - first.strike, first),
         Strategy::ShortStraddle | Strategy::ShortStrangle => {
-            straddle_margin(first, second, first_leg, second_leg)
+            straddle_margin(&Leg::of(legs, first), &Leg::of(legs, second))
         }
     }
 }
@@ -64,6 +82,5 @@ fn raw_margin(pair: &FittedPair, first_leg: u64, second_leg: u64) -> u64
 pub fn pair_margin<L: LegScale>(legs: &L, pair: &FittedPair) -> u64
     ensures { result ≡ pair_margin (L.leg_of legs.now) pair.now.strategy pair.now.first pair.now.second }
 {
-    let raw = raw_margin(pair, legs.leg(&pair.first), legs.leg(&pair.second));
-    HAO_PER_FEN * ((raw + HAO_PER_FEN / 2) / HAO_PER_FEN)
+    HAO_PER_FEN * ((raw_margin(legs, pair) + HAO_PER_FEN / 2) / HAO_PER_FEN)
 }
