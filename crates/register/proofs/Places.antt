@@ -1,15 +1,12 @@
 -- What rows hold, by the place of the earliest row with a number.
-use Rattle.std.proofs.Common.{◌≡◌, ℕ, zero, suc, true, false, List, [], ◌∷◌, length, get_or, set, Some, None, Option, refl, ap, ◌∙◌, arith, MatchOption}
-use Rattle.std.proofs.lemmas.Bool.{cond-true, cond-false, eq-eqb, ne_eqb, or_left, or_right, or_from}
+use Rattle.std.proofs.Common.{◌≡◌, ℕ, zero, suc, true, false, List, [], ◌∷◌, length, get_or, set, Some, None, Option, refl, arith, MatchOption}
+use Rattle.std.proofs.lemmas.Bool.Decides.{nat_tests}
 use Rattle.register.specs.declared.row.Row.{Row}
 use Rattle.register.specs.Places.{NoneBefore, FirstAt, StandsNowhere, StandsAt}
 use Rattle.register.specs.Rows.{lookup, replaced, holding, freed, some_free, FreeAt}
-use Rattle.register.proofs.After.{stands_is, stands_not, lookup_zero, replaced_absent}
+use Rattle.register.proofs.After.{lookup_zero, replaced_absent}
 
 module _ {T : Type 0} where
-  none_here : (r : Row T) (rs : List (Row T)) (n i : ℕ) → NoneBefore (r ∷ rs) n (suc i) → r.number ≡ n → ⊥
-  none_here r rs n i p = p 0 r (omega arith)
-
   none_later : (r : Row T) (rs : List (Row T)) (n i : ℕ) → NoneBefore (r ∷ rs) n (suc i) → NoneBefore rs n i
   none_later r rs n i p = λ k d h. p (suc k) d (omega arith)
 
@@ -20,18 +17,17 @@ module _ {T : Type 0} where
 
   lookup_at : (rs : List (Row T)) (n i : ℕ) (d : Row T) → (n ≡ 0 → ⊥) → FirstAt rs n i → lookup rs n ≡ Some (get_or rs i d).entry
   lookup_at [] n i d nn p = absurd (omega (arith, p.0))
-  lookup_at (r ∷ rs) n zero d nn p = cond-true _ _ _ (stands_is r n nn (p.1 d))
-  lookup_at (r ∷ rs) n (suc i) d nn p = cond-false _ _ _ (stands_not r n (none_here r rs n i p.2)) ∙ lookup_at rs n i d nn (first_later r rs n i p)
+  lookup_at (r ∷ rs) n zero d nn p = let here = p.1 d in grind (arith, nat_tests)
+  lookup_at (r ∷ rs) n (suc i) d nn p = let here = p.2 0 r in let rest = lookup_at rs n i d nn (first_later r rs n i p) in grind (arith, nat_tests)
 
   replaced_at : (f : Row T → Row T) (rs : List (Row T)) (n i : ℕ) (d : Row T) → (n ≡ 0 → ⊥) → FirstAt rs n i → replaced f rs n ≡ set rs i (f (get_or rs i d))
   replaced_at f [] n i d nn p = absurd (omega (arith, p.0))
-  replaced_at f (r ∷ rs) n zero d nn p = cond-true _ _ _ (stands_is r n nn (p.1 d))
-  replaced_at f (r ∷ rs) n (suc i) d nn p =
-      cond-false _ _ _ (stands_not r n (none_here r rs n i p.2)) ∙ ap (λ ys. r ∷ ys) (replaced_at f rs n i d nn (first_later r rs n i p))
+  replaced_at f (r ∷ rs) n zero d nn p = let here = p.1 d in grind (arith, nat_tests)
+  replaced_at f (r ∷ rs) n (suc i) d nn p = let here = p.2 0 r in let rest = replaced_at f rs n i d nn (first_later r rs n i p) in grind (arith, nat_tests)
 
   lookup_nowhere : (rs : List (Row T)) (n : ℕ) → NoneBefore rs n (length rs) → lookup rs n ≡ None
   lookup_nowhere [] n p = refl
-  lookup_nowhere (r ∷ rs) n p = cond-false _ _ _ (stands_not r n (none_here r rs n _ p)) ∙ lookup_nowhere rs n (none_later r rs n _ p)
+  lookup_nowhere (r ∷ rs) n p = let here = p 0 r in let rest = lookup_nowhere rs n (none_later r rs n _ p) in grind (arith, nat_tests)
 
   nowhere_absent : (rs : List (Row T)) (n : ℕ) → lookup rs n ≡ None → StandsNowhere rs n
   nowhere_absent rs n p = record { finds = p; changes = λ e. replaced_absent (holding e) rs n p; removes = replaced_absent freed rs n p }
@@ -52,12 +48,12 @@ module _ {T : Type 0} where
 
   some_free_at : (rs : List (Row T)) (i : ℕ) → FirstAt rs 0 i → some_free rs ≡ true
   some_free_at [] i p = absurd (omega (arith, p.0))
-  some_free_at (r ∷ rs) zero p = or_left _ _ (eq-eqb _ _ (p.1 r))
-  some_free_at (r ∷ rs) (suc i) p = or_right _ _ (some_free_at rs i (first_later r rs 0 i p))
+  some_free_at (r ∷ rs) zero p = let here = p.1 r in grind (arith, nat_tests)
+  some_free_at (r ∷ rs) (suc i) p = let rest = some_free_at rs i (first_later r rs 0 i p) in grind (arith, nat_tests)
 
   none_free : (rs : List (Row T)) → NoneBefore rs 0 (length rs) → some_free rs ≡ false
   none_free [] p = refl
-  none_free (r ∷ rs) p = or_from _ _ (ne_eqb _ _ (none_here r rs 0 _ p)) (none_free rs (none_later r rs 0 _ p))
+  none_free (r ∷ rs) p = let here = p 0 r in let rest = none_free rs (none_later r rs 0 _ p) in grind (arith, nat_tests)
 
   pub free_from_first : (rs : List (Row T)) (o : Option ℕ) → MatchOption o (NoneBefore rs 0 (length rs)) (FirstAt rs 0) → MatchOption o (some_free rs ≡ false) (λ i. (some_free rs ≡ true) × FreeAt rs i)
   free_from_first rs None p = none_free rs p
