@@ -9,10 +9,6 @@ use Rattle.register.specs.Rows.{lookup}
 use Rattle.register.proofs.After.{lookup_added, apart_changed, apart_removed, apart_added, apart_free, below_changed, below_removed, below_added, below_raised, absent_above, found_below, in_use_added}
 
 module _ {T : Type 0} where
-  -- a number that is given is not 0
-  number_given : (rs after : List (Row T)) (s moved : Series) (n : ℕ) (e : T) → Adds rs s e (Ok n) after moved → n ≡ 0 → ⊥
-  number_given rs after s moved n e added z = omega (arith, added.1)
-
   -- the number given was not there
   number_absent : (rs after : List (Row T)) (s moved : Series) (n : ℕ) (e : T) → InOrder rs s → Adds rs s e (Ok n) after moved → lookup rs n ≡ None
   number_absent rs after s moved n e order added = absent_above rs n (next_of s) (omega (arith, added.1)) order.1
@@ -20,7 +16,7 @@ module _ {T : Type 0} where
 module _ (T : Type 0) where
   pub look_up_after_addition : LookUpAfterAddition T
   look_up_after_addition rs after s moved n k e order added =
-      lookup_added rs after n k e (number_given rs after s moved n e added) (number_absent rs after s moved n e order added) added.2
+      lookup_added rs after n k e (λ z. omega (arith, added.1)) (number_absent rs after s moved n e order added) added.2
 
   pub free_rows_in_order : FreeRowsInOrder T
   free_rows_in_order rs s free = (apart_free rs free, below_raised rs 1 (next_of s) (omega arith) free)
@@ -34,7 +30,7 @@ module _ (T : Type 0) where
   pub addition_keeps_order : AdditionKeepsOrder T
   addition_keeps_order rs after s moved n e order added =
       let next : next_of moved ≡ next_of s + 1 = ap next_of added.3 in (
-        apart_added rs after n e (number_given rs after s moved n e added) (number_absent rs after s moved n e order added) added.2 order.0,
+        apart_added rs after n e (λ z. omega (arith, added.1)) (number_absent rs after s moved n e order added) added.2 order.0,
         below_added rs after n (next_of moved) e (omega (arith, added.1)) added.2 (below_raised rs (next_of s) (next_of moved) (omega arith) order.1),
       )
 
@@ -43,4 +39,4 @@ module _ (T : Type 0) where
       (number_absent rs after s moved n e order added, λ k x p. omega (arith, added.1, found_below rs k (next_of s) x order.1 p))
 
   pub sum_after_addition : SumAfterAddition T
-  sum_after_addition f rs after s moved n e added = in_use_added f rs after n e (number_given rs after s moved n e added) added.2
+  sum_after_addition f rs after s moved n e added = in_use_added f rs after n e (λ z. omega (arith, added.1)) added.2
