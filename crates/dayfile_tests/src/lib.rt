@@ -9,8 +9,6 @@ mod tests {
     use std::alloc::{AllocError, Global};
     use std::test::Fail;
 
-    const SOUND: [usize; 4] = [0, 0, 0, 0];
-
     // Where the sections of the sample stand: settings, two contracts, one call of each of the eleven kinds.
     const CONTRACTS: usize = 44;
 
@@ -67,85 +65,83 @@ mod tests {
         [false, false, false, true, false, true, false],
     ];
 
-    // One field of the sample changed (place, width, value), and what is told then: number, section, record, place.
-    const DAMAGES: [((usize, usize, u64), [usize; 4]); 70] = [
-        ((0, 4, 23), [2, 1, 0, 0]),
-        ((8, 4, 43), [2, 2, 0, 8]),
-        ((16, 4, 107), [2, 3, 0, 16]),
-        ((20, 4, 265), [2, 3, 0, 16]),
-        ((20, 4, 4_294_967_295), [2, 3, 0, 16]),
-        ((16, 4, 4_294_967_295), [2, 3, 0, 16]),
-        ((4, 4, 21), [2, 2, 0, 8]),
-        ((4, 4, 19), [3, 1, 0, 4]),
-        ((4, 4, 0), [3, 1, 0, 4]),
-        ((12, 4, 0), [3, 2, 0, 12]),
-        ((12, 4, 31), [3, 2, 0, 12]),
-        ((12, 4, 32), [0, 0, 0, 0]),
-        ((12, 4, 63), [3, 2, 0, 12]),
-        ((12, 4, 65), [2, 3, 0, 16]),
-        ((20, 4, 0), [0, 0, 0, 0]),
-        ((20, 4, 24), [0, 0, 0, 0]),
-        ((20, 4, 263), [3, 3, 0, 20]),
-        ((24, 1, 0), [4, 1, 1, 24]),
-        ((24, 1, 2), [0, 0, 0, 0]),
-        ((24, 1, 3), [4, 1, 1, 24]),
-        ((25, 1, 100), [0, 0, 0, 0]),
-        ((25, 1, 101), [4, 1, 1, 25]),
-        ((26, 1, 100), [0, 0, 0, 0]),
-        ((26, 1, 101), [4, 1, 1, 26]),
-        ((27, 1, 0), [0, 0, 0, 0]),
-        ((27, 1, 64), [4, 1, 1, 27]),
-        ((28, 4, 0), [4, 1, 1, 28]),
-        ((28, 4, 4_294_967_295), [0, 0, 0, 0]),
-        ((32, 8, 0), [0, 0, 0, 0]),
-        ((32, 8, 10_000_000_000_000_000), [0, 0, 0, 0]),
-        ((32, 8, 10_000_000_000_000_001), [4, 1, 1, 32]),
-        ((40, 2, 0), [4, 1, 1, 40]),
-        ((40, 2, 1), [0, 0, 0, 0]),
-        ((40, 2, 140), [0, 0, 0, 0]),
-        ((40, 2, 141), [4, 2, 1, 52]),
-        ((42, 2, 1), [7, 1, 1, 42]),
-        ((42, 2, 256), [7, 1, 1, 42]),
-        ((44, 4, 9_999_999), [4, 2, 1, 44]),
-        ((44, 4, 10_000_000), [0, 0, 0, 0]),
-        ((44, 4, 90_000_002), [5, 2, 2, 76]),
-        ((76, 4, 90_000_000), [5, 2, 2, 76]),
-        ((76, 4, 99_999_999), [0, 0, 0, 0]),
-        ((76, 4, 100_000_000), [4, 2, 2, 76]),
-        ((48, 4, 0), [4, 2, 1, 48]),
-        ((48, 4, 1), [0, 0, 0, 0]),
-        ((48, 4, 999_999), [0, 0, 0, 0]),
-        ((48, 4, 1_000_000), [4, 2, 1, 48]),
-        ((52, 2, 99), [4, 2, 1, 52]),
-        ((52, 2, 100), [0, 0, 0, 0]),
-        ((84, 2, 65_535), [0, 0, 0, 0]),
-        ((54, 1, 0), [4, 2, 1, 54]),
-        ((54, 1, 3), [4, 2, 1, 54]),
-        ((55, 1, 0), [4, 2, 1, 55]),
-        ((55, 1, 3), [4, 2, 1, 55]),
-        ((55, 1, 1), [6, 2, 2, 80]),
-        ((87, 1, 1), [6, 2, 2, 80]),
-        ((56, 4, 0), [4, 2, 1, 56]),
-        ((56, 4, 1), [0, 0, 0, 0]),
-        ((56, 4, 1_000_000), [0, 0, 0, 0]),
-        ((56, 4, 1_000_001), [4, 2, 1, 56]),
-        ((60, 4, 0), [4, 2, 1, 60]),
-        ((60, 4, 10_000_000), [0, 0, 0, 0]),
-        ((60, 4, 10_000_001), [4, 2, 1, 60]),
-        ((64, 4, 0), [4, 2, 1, 64]),
-        ((64, 4, 10_000_001), [4, 2, 1, 64]),
-        ((68, 4, 0), [4, 2, 1, 68]),
-        ((68, 4, 10_000_001), [4, 2, 1, 68]),
-        ((100, 4, 40_001), [6, 2, 2, 80]),
-        ((104, 4, 4_294_967_295), [0, 0, 0, 0]),
-        ((108, 1, 0), [4, 3, 1, 108]),
+    // One field of the sample changed (place, width, value), and the fault told then, if any: number, section, record, place.
+    const DAMAGES: [((usize, usize, u64), Option<[usize; 4]>); 70] = [
+        ((0, 4, 23), Some([2, 1, 0, 0])),
+        ((8, 4, 43), Some([2, 2, 0, 8])),
+        ((16, 4, 107), Some([2, 3, 0, 16])),
+        ((20, 4, 265), Some([2, 3, 0, 16])),
+        ((20, 4, 4_294_967_295), Some([2, 3, 0, 16])),
+        ((16, 4, 4_294_967_295), Some([2, 3, 0, 16])),
+        ((4, 4, 21), Some([2, 2, 0, 8])),
+        ((4, 4, 19), Some([3, 1, 0, 4])),
+        ((4, 4, 0), Some([3, 1, 0, 4])),
+        ((12, 4, 0), Some([3, 2, 0, 12])),
+        ((12, 4, 31), Some([3, 2, 0, 12])),
+        ((12, 4, 32), None),
+        ((12, 4, 63), Some([3, 2, 0, 12])),
+        ((12, 4, 65), Some([2, 3, 0, 16])),
+        ((20, 4, 0), None),
+        ((20, 4, 24), None),
+        ((20, 4, 263), Some([3, 3, 0, 20])),
+        ((24, 1, 0), Some([4, 1, 1, 24])),
+        ((24, 1, 2), None),
+        ((24, 1, 3), Some([4, 1, 1, 24])),
+        ((25, 1, 100), None),
+        ((25, 1, 101), Some([4, 1, 1, 25])),
+        ((26, 1, 100), None),
+        ((26, 1, 101), Some([4, 1, 1, 26])),
+        ((27, 1, 0), None),
+        ((27, 1, 64), Some([4, 1, 1, 27])),
+        ((28, 4, 0), Some([4, 1, 1, 28])),
+        ((28, 4, 4_294_967_295), None),
+        ((32, 8, 0), None),
+        ((32, 8, 10_000_000_000_000_000), None),
+        ((32, 8, 10_000_000_000_000_001), Some([4, 1, 1, 32])),
+        ((40, 2, 0), Some([4, 1, 1, 40])),
+        ((40, 2, 1), None),
+        ((40, 2, 140), None),
+        ((40, 2, 141), Some([4, 2, 1, 52])),
+        ((42, 2, 1), Some([7, 1, 1, 42])),
+        ((42, 2, 256), Some([7, 1, 1, 42])),
+        ((44, 4, 9_999_999), Some([4, 2, 1, 44])),
+        ((44, 4, 10_000_000), None),
+        ((44, 4, 90_000_002), Some([5, 2, 2, 76])),
+        ((76, 4, 90_000_000), Some([5, 2, 2, 76])),
+        ((76, 4, 99_999_999), None),
+        ((76, 4, 100_000_000), Some([4, 2, 2, 76])),
+        ((48, 4, 0), Some([4, 2, 1, 48])),
+        ((48, 4, 1), None),
+        ((48, 4, 999_999), None),
+        ((48, 4, 1_000_000), Some([4, 2, 1, 48])),
+        ((52, 2, 99), Some([4, 2, 1, 52])),
+        ((52, 2, 100), None),
+        ((84, 2, 65_535), None),
+        ((54, 1, 0), Some([4, 2, 1, 54])),
+        ((54, 1, 3), Some([4, 2, 1, 54])),
+        ((55, 1, 0), Some([4, 2, 1, 55])),
+        ((55, 1, 3), Some([4, 2, 1, 55])),
+        ((55, 1, 1), Some([6, 2, 2, 80])),
+        ((87, 1, 1), Some([6, 2, 2, 80])),
+        ((56, 4, 0), Some([4, 2, 1, 56])),
+        ((56, 4, 1), None),
+        ((56, 4, 1_000_000), None),
+        ((56, 4, 1_000_001), Some([4, 2, 1, 56])),
+        ((60, 4, 0), Some([4, 2, 1, 60])),
+        ((60, 4, 10_000_000), None),
+        ((60, 4, 10_000_001), Some([4, 2, 1, 60])),
+        ((64, 4, 0), Some([4, 2, 1, 64])),
+        ((64, 4, 10_000_001), Some([4, 2, 1, 64])),
+        ((68, 4, 0), Some([4, 2, 1, 68])),
+        ((68, 4, 10_000_001), Some([4, 2, 1, 68])),
+        ((100, 4, 40_001), Some([6, 2, 2, 80])),
+        ((104, 4, 4_294_967_295), None),
+        ((108, 1, 0), Some([4, 3, 1, 108])),
     ];
 
     fn push(bytes: &mut Vec<u8>, fields: &[(usize, u64)]) -> Result<(), AllocError> {
         for (width, value) in fields {
-            for byte in value.to_le_bytes().iter().take(*width) {
-                bytes.push(*byte)?;
-            }
+            bytes.extend_from_slice(&value.to_le_bytes()[..(*width).min(8)])?;
         }
         Ok(())
     }
@@ -159,11 +155,11 @@ mod tests {
     }
 
     // A file of `gap` bytes before each section, as many contracts under rising codes, and one call of each of the first kinds.
-    fn packed(heap: Global, gap: u64, contracts: u64, calls: u64) -> Result<Vec<u8>, AllocError> {
+    fn packed(heap: Global, gap: u8, contracts: u8, calls: u8) -> Result<Vec<u8>, AllocError> {
         let mut bytes = Vec::new(heap);
-        let gap = gap & 0xff;
-        let contracts = contracts & 0xff;
-        let calls = calls & 0xff;
+        let gap = u64::from(gap);
+        let contracts = u64::from(contracts);
+        let calls = u64::from(calls);
         let first = 24 + gap;
         let second = first + 20 + gap;
         let third = second + 32 * contracts + gap;
@@ -192,19 +188,14 @@ mod tests {
         Ok(bytes)
     }
 
-    fn judged(bytes: &[u8]) -> [usize; 4] {
-        match DayFile::read(bytes) {
-            Ok(_) => SOUND,
-            Err(e) => {
-                let fault = Fault::from(e);
-                [
-                    fault.number as usize,
-                    fault.section as usize,
-                    fault.ordinal,
-                    fault.place,
-                ]
-            }
-        }
+    fn judged(bytes: &[u8]) -> Option<[usize; 4]> {
+        let fault = Fault::from(DayFile::read(bytes).err()?);
+        Some([
+            usize::from(fault.number),
+            usize::from(fault.section),
+            fault.ordinal,
+            fault.place,
+        ])
     }
 
     #[test]
@@ -225,16 +216,16 @@ mod tests {
                 let place = (CALLS + 24 * k).saturating_add(*at);
                 put(&mut bytes, place, *width, 255);
                 let told = if *is_named {
-                    SOUND
+                    None
                 } else {
-                    [7, 3, k + 1, place]
+                    Some([7, 3, k + 1, place])
                 };
                 assert_eq!(rt; judged(&bytes), told);
             }
         }
         let mut bytes = packed(rt.alloc(), 0, 2, 11)?;
         put(&mut bytes, CALLS + 24 * 10, 1, 12);
-        assert_eq!(rt; judged(&bytes), [4, 3, 11, 348]);
+        assert_eq!(rt; judged(&bytes), Some([4, 3, 11, 348]));
         Ok(())
     }
 
@@ -243,41 +234,41 @@ mod tests {
         let mut bytes = packed(rt.alloc(), 0, 2, 11)?;
         put(&mut bytes, CALLS, 1, 0);
         put(&mut bytes, CONTRACTS + 32, 4, 90_000_001);
-        assert_eq!(rt; judged(&bytes), [5, 2, 2, 76]);
+        assert_eq!(rt; judged(&bytes), Some([5, 2, 2, 76]));
         put(&mut bytes, CONTRACTS + 32 + 11, 1, 1);
-        assert_eq!(rt; judged(&bytes), [5, 2, 2, 76]);
+        assert_eq!(rt; judged(&bytes), Some([5, 2, 2, 76]));
         put(&mut bytes, CONTRACTS + 32 + 28, 4, 0);
         put(&mut bytes, CONTRACTS + 32 + 24, 4, 0);
-        assert_eq!(rt; judged(&bytes), [4, 2, 2, 100]);
+        assert_eq!(rt; judged(&bytes), Some([4, 2, 2, 100]));
         put(&mut bytes, 42, 1, 1);
-        assert_eq!(rt; judged(&bytes), [7, 1, 1, 42]);
+        assert_eq!(rt; judged(&bytes), Some([7, 1, 1, 42]));
         put(&mut bytes, 20, 4, 25);
-        assert_eq!(rt; judged(&bytes), [3, 3, 0, 20]);
+        assert_eq!(rt; judged(&bytes), Some([3, 3, 0, 20]));
         put(&mut bytes, 8, 4, 30);
-        assert_eq!(rt; judged(&bytes), [2, 2, 0, 8]);
+        assert_eq!(rt; judged(&bytes), Some([2, 2, 0, 8]));
         Ok(())
     }
 
     #[test]
     fn sections_may_touch_or_leave_gaps(rt: HostRuntime) -> Result<(), Fail> {
-        assert_eq!(rt; judged(&packed(rt.alloc(), 0, 1, 0)?), SOUND);
-        assert_eq!(rt; judged(&packed(rt.alloc(), 5, 1, 0)?), SOUND);
-        assert_eq!(rt; judged(&packed(rt.alloc(), 7, 64, 11)?), SOUND);
-        assert_eq!(rt; judged(&packed(rt.alloc(), 0, 65, 0)?), [3, 2, 0, 12]);
-        assert_eq!(rt; judged(&packed(rt.alloc(), 0, 0, 0)?), [3, 2, 0, 12]);
+        assert_eq!(rt; judged(&packed(rt.alloc(), 0, 1, 0)?), None);
+        assert_eq!(rt; judged(&packed(rt.alloc(), 5, 1, 0)?), None);
+        assert_eq!(rt; judged(&packed(rt.alloc(), 7, 64, 11)?), None);
+        assert_eq!(rt; judged(&packed(rt.alloc(), 0, 65, 0)?), Some([3, 2, 0, 12]));
+        assert_eq!(rt; judged(&packed(rt.alloc(), 0, 0, 0)?), Some([3, 2, 0, 12]));
         Ok(())
     }
 
     #[test]
     fn a_file_has_its_size(rt: HostRuntime) -> Result<(), Fail> {
-        assert_eq!(rt; judged(&[]), [1, 0, 0, 0]);
-        assert_eq!(rt; judged(&[0; 23]), [1, 0, 0, 0]);
-        assert_eq!(rt; judged(&[0; 24]), [2, 1, 0, 0]);
+        assert_eq!(rt; judged(&[]), Some([1, 0, 0, 0]));
+        assert_eq!(rt; judged(&[0; 23]), Some([1, 0, 0, 0]));
+        assert_eq!(rt; judged(&[0; 24]), Some([2, 1, 0, 0]));
         let mut bytes = packed(rt.alloc(), 0, 2, 11)?;
         bytes.resize(60_000, 255)?;
-        assert_eq!(rt; judged(&bytes), SOUND);
+        assert_eq!(rt; judged(&bytes), None);
         bytes.push(255)?;
-        assert_eq!(rt; judged(&bytes), [1, 0, 0, 0]);
+        assert_eq!(rt; judged(&bytes), Some([1, 0, 0, 0]));
         Ok(())
     }
 
