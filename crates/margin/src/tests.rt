@@ -61,9 +61,7 @@ fn standard_legs(rt: HostRuntime) -> Result<(), Fail> {
         ),
     ];
     for (quote, margin) in legs {
-        let Some(contract) = contract(quote, 0) else {
-            return Err(Fail::new("a quote is out of range"));
-        };
+        let contract = contract(quote, 0).ok_or("a quote is out of range")?;
         assert_eq!(rt; StandardScale.leg(&contract), margin);
     }
     Ok(())
@@ -195,9 +193,7 @@ fn pair_margins(rt: HostRuntime) -> Result<(), Fail> {
         ),
     ];
     for (strategy, first, second, margin, relief, listed) in cases {
-        let Some(pair) = pair(strategy, first, second) else {
-            return Err(Fail::new("a pair does not fit"));
-        };
+        let pair = pair(strategy, first, second).ok_or("a pair does not fit")?;
         assert_eq!(rt; StandardScale.pair(&pair), margin);
         assert_eq!(rt; pair.relief(&StandardScale), relief);
         assert_eq!(rt; ListedScale.pair(&pair), listed);
@@ -208,13 +204,9 @@ fn pair_margins(rt: HostRuntime) -> Result<(), Fail> {
 #[test]
 fn raised_margins(rt: HostRuntime) -> Result<(), Fail> {
     let half_fen = Quote(Kind::Fund, Right::Call, 10_000, 10_000, 50, 1);
-    let Some(contract) = contract(half_fen, 0) else {
-        return Err(Fail::new("a quote is out of range"));
-    };
+    let contract = contract(half_fen, 0).ok_or("a quote is out of range")?;
     for (value, margin) in [(0, 1_300), (3, 1_300), (4, 1_400), (100, 2_600)] {
-        let Some(percent) = Percent::new(value) else {
-            return Err(Fail::new("a percentage is out of range"));
-        };
+        let percent = Percent::new(value).ok_or("a percentage is out of range")?;
         let raised = RaisedScale {
             base: StandardScale,
             percent,
@@ -235,13 +227,9 @@ fn largest_margins(rt: HostRuntime) -> Result<(), Fail> {
         10_000_000,
         1_000_000,
     );
-    let Some(contract) = contract(largest, u32::MAX) else {
-        return Err(Fail::new("a quote is out of range"));
-    };
+    let contract = contract(largest, u32::MAX).ok_or("a quote is out of range")?;
     assert_eq!(rt; ListedScale.leg(&contract), 429_496_729_500);
-    let Some(percent) = Percent::new(100) else {
-        return Err(Fail::new("a percentage is out of range"));
-    };
+    let percent = Percent::new(100).ok_or("a percentage is out of range")?;
     let doubled = RaisedScale {
         base: StandardScale,
         percent,
