@@ -58,12 +58,12 @@ fn fields(day: u16) -> [Field; 10]
 }
 
 // The contract of a record whose fields keep their rules.
-fn contract_in(bytes: &[u8], day: u16) -> Contract
-    requires whole { length bytes.now ≡ 32 }
+fn contract_in(source: &Record<CONTRACT>, day: u16) -> Contract
     requires day { 1 ≤ day }
-    requires kept { Kept bytes.now (contract_fields day) }
-    ensures { terms_of result ≡ terms_in bytes.now }
+    requires kept { Kept source.now.bytes.now (contract_fields day) }
+    ensures { terms_of result ≡ terms_in source.now.bytes.now }
 {
+    let bytes = source.bytes;
     let Ok(right) = Right::try_from(read(bytes, RIGHT) as u8) else {
         unreachable()
     };
@@ -90,7 +90,7 @@ fn contract(source: &Record<CONTRACT>, settings: &Settings) -> Result<Contract, 
 {
     let day = settings.day;
     source.check(&fields(day))?;
-    Ok(contract_in(source.bytes, day))
+    Ok(contract_in(source, day))
 }
 
 // Lists the contract of a record behind the others.

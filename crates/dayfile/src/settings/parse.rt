@@ -8,7 +8,7 @@ ghost use Rattle.dayfile.specs.Records.{settings_numbers};
 use crate::bytes::read;
 use crate::fault::SectionFault;
 use crate::field::{Column, Field};
-use crate::record::Span;
+use crate::record::{Record, Span};
 use crate::sections::SETTINGS;
 use ledger::settings::{BaseScale, Settings};
 use margin::percent::Percent;
@@ -45,11 +45,11 @@ fn fields() -> [Field; 8]
 }
 
 // The settings of a record whose fields keep their rules.
-fn settings_in(bytes: &[u8]) -> Settings
-    requires whole { length bytes.now ≡ 20 }
-    requires kept { Kept bytes.now settings_fields }
-    ensures { settings_numbers result ≡ values bytes.now settings_fields }
+fn settings_in(source: &Record<SETTINGS>) -> Settings
+    requires { Kept source.now.bytes.now settings_fields }
+    ensures { settings_numbers result ≡ values source.now.bytes.now settings_fields }
 {
+    let bytes = source.bytes;
     let Ok(scale) = BaseScale::try_from(read(bytes, SCALE) as u8) else {
         unreachable()
     };
@@ -78,5 +78,5 @@ pub(crate) fn find(span: &Span) -> Result<Settings, SectionFault>
         unreachable()
     };
     found.check(&fields())?;
-    Ok(settings_in(found.bytes))
+    Ok(settings_in(&found))
 }
