@@ -21,7 +21,7 @@ pub(crate) struct Reader<'a, const W: usize> {
     pub(crate) bytes: &'a [u8],
     pub(crate) place: usize,
     pub(crate) passed: usize,
-    ghost wide: { 0 < W },
+    ghost wide: { (0 < W) × (W ≤ 60000) },
     ghost in_file: { place + length bytes.now ≤ 60000 },
     ghost counted: { passed ≤ place },
 }
@@ -30,9 +30,8 @@ pub(crate) struct Reader<'a, const W: usize> {
 #[derive(Clone, Copy)]
 pub(crate) struct Record<'a, const W: usize> {
     pub(crate) section: Section,
-    pub(crate) bytes: &'a [u8],
+    pub(crate) bytes: &'a [u8; W],
     pub(crate) place: usize,
     pub(crate) ordinal: usize,
-    ghost whole: { length bytes.now ≡ W },
     ghost in_file: { place + W ≤ 60000 },
 }

@@ -110,7 +110,8 @@ fn check(source: &Record<CALL>) -> Result<(), RecordFault>
     ensures kept { OnOk result (Kept source.now.bytes.now call_number_fields) }
 {
     source.check(&[Field::within(NUMBER, 1, 11)])?;
-    let Ok(kind) = CallKind::try_from(read(source.bytes, NUMBER) as u8) else {
+    let bytes = source.bytes;
+    let Ok(kind) = CallKind::try_from(read(bytes, NUMBER) as u8) else {
         unreachable()
     };
     source.check(&arguments(names(kind)))
@@ -129,9 +130,8 @@ pub(crate) fn check_all(span: &Span) -> Result<(), SectionFault>
 }
 
 // The call of a record that has the number of one.
-pub(crate) fn call(bytes: &[u8]) -> Call
-    requires whole { length bytes.now ≡ 24 }
-    requires kept { Kept bytes.now call_number_fields }
+pub(crate) fn call(bytes: &[u8; CALL]) -> Call
+    requires { Kept bytes.now call_number_fields }
     ensures { result ≡ call_in bytes.now }
 {
     let account = read(bytes, ACCOUNT) as u8;

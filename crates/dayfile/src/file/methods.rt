@@ -62,7 +62,8 @@ impl<'a> DayFile<'a> {
         if k >= self.call_count() {
             return None;
         }
-        Some(parse_call(&self.calls[CALL * k..][..CALL]))
+        let (record, _) = self.calls[CALL * k..].split_first_chunk()?;
+        Some(parse_call(record))
     }
 
     // The calls, one after another.
@@ -81,7 +82,7 @@ impl Iterator for Calls<'_> {
     ghost remaining = { λ s. at_most (length s.rest.now) };
 
     fn next(&mut self) -> Option<Call> {
-        let (record, rest) = self.rest.split_at_checked(CALL)?;
+        let (record, rest) = self.rest.split_first_chunk()?;
         self.rest = rest;
         Some(parse_call(record))
     }

@@ -19,7 +19,7 @@ impl<'a> Span<'a> {
     }
 
     pub(crate) fn records<const W: usize>(&self) -> Reader<'a, W>
-        requires { 0 < W }
+        requires { (0 < W) × (W ≤ 60000) }
         ensures { Begins self.now result }
     {
         Reader {
@@ -39,7 +39,7 @@ impl<'a, const W: usize> Iterator for Reader<'a, W> {
     ghost remaining = { λ s. at_most (length s.bytes.now) };
 
     fn next(&mut self) -> Option<Record<'a, W>> {
-        let (bytes, rest) = self.bytes.split_at_checked(W)?;
+        let (bytes, rest) = self.bytes.split_first_chunk()?;
         let place = self.place;
         self.bytes = rest;
         self.place = place + W;
@@ -84,8 +84,9 @@ impl<const W: usize> Record<'_, W> {
         ensures fault { Passed (fields_fault self.now.bytes.now (section_number self.now.section) self.now.ordinal self.now.place fields.now) result }
         ensures kept { OnOk result (Kept self.now.bytes.now fields.now) }
     {
+        let bytes = self.bytes;
         for field in fields {
-            if let Some(breach) = breach(field.rule, read(self.bytes, field.column)) {
+            if let Some(breach) = breach(field.rule, read(bytes, field.column)) {
                 return Err(self.fault(field.column, breach));
             }
         }
