@@ -71,15 +71,16 @@ part_of_part bytes a e i w h =
     ∙ take-take w (e - i) (drop i (drop a bytes)) (omega arith)
     ∙ ap (take w) (drop-drop i a bytes)
 
--- what is said of a record by its bytes, ordinal and place is said of the file
-pub told : {X : Type 0} (F : List ℕ → ℕ → ℕ → X) {bytes : List ℕ} {s : Section} {w : ℕ} {span : Span} {k : ℕ} {found : Record w} → SpanOf bytes s span → Handed span k found →
-    F found.bytes.now found.ordinal found.place ≡ F (part bytes (start bytes s + w * k) w) (k + 1) (start bytes s + w * k)
+-- what is said of a record by its section, bytes, ordinal and place is said of the file
+pub told : {X : Type 0} (F : Section → List ℕ → ℕ → ℕ → X) {bytes : List ℕ} {s : Section} {w : ℕ} {span : Span} {k : ℕ} {found : Record w} → SpanOf bytes s span → Handed span k found →
+    F found.section found.bytes.now found.ordinal found.place ≡ F s (part bytes (start bytes s + w * k) w) (k + 1) (start bytes s + w * k)
 told F {bytes = bytes} {s = s} {w = w} {k = k} {found = found} of h =
     let at : found.place ≡ start bytes s + w * k = h.place_is ∙ ap (λ p. p + w * k) of.place in
     let same = h.bytes_are ∙ ap (λ b. part b (w * k) w) of.bytes_are ∙ part_of_part bytes (start bytes s) (extent bytes s) (w * k) w (omega (arith, h.within, of.long)) in
-    ap (λ b. F b found.ordinal found.place) same
-    ∙ ap (λ n. F (part bytes (start bytes s + w * k) w) n found.place) h.ordinal_is
-    ∙ ap (λ p. F (part bytes (start bytes s + w * k) w) (k + 1) p) at
+    ap (λ t. F t found.bytes.now found.ordinal found.place) (h.section_is ∙ of.section)
+    ∙ ap (λ b. F s b found.ordinal found.place) same
+    ∙ ap (λ n. F s (part bytes (start bytes s + w * k) w) n found.place) h.ordinal_is
+    ∙ ap (λ p. F s (part bytes (start bytes s + w * k) w) (k + 1) p) at
 
 -- the one record of a section that is as long
 pub only : {X : Type 0} (F : Section → List ℕ → ℕ → ℕ → X) {w : ℕ} {span : Span} {r after : Reader w} {found : Record w} → length span.bytes.now ≡ w → Begins span r → Next r found after →

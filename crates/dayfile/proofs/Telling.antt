@@ -36,13 +36,13 @@ told (suc (suc (suc (suc (suc (suc (suc (suc (suc (suc zero)))))))))) account st
 told (suc (suc (suc (suc (suc (suc (suc (suc (suc (suc (suc zero))))))))))) account strategy spare a b lots amount low high (p₀, (p₁, (p₂, (p₃, (p₄, (p₅, (p₆, _))))))) = cc
 told (suc (suc (suc (suc (suc (suc (suc (suc (suc (suc (suc (suc n)))))))))))) account strategy spare a b lots amount low high u = absurd (omega arith)
 
-pub record_said : (p : List ℕ) (ordinal place : ℕ) → call_record_fault p ordinal place ≡ None → call_numbers (call_in p) ≡ values p (call_fields (value p call_column))
-record_said p ordinal place e =
+pub record_said : (p : List ℕ) (section ordinal place : ℕ) → call_record_fault p section ordinal place ≡ None → call_numbers (call_in p) ≡ values p (call_fields (value p call_column))
+record_said p section ordinal place e =
     let q = first_none _ _ e in
-    let n = fields_kept p 3 ordinal place call_number_fields q.0 in
-    let k = fields_kept p 3 ordinal place (argument_fields (names_of (value p call_column))) q.1 in
+    let n = fields_kept p section ordinal place call_number_fields q.0 in
+    let k = fields_kept p section ordinal place (argument_fields (names_of (value p call_column))) q.1 in
     told (value p call_column) _ _ _ _ _ _ _ n.0.0 n.0.1 k
 
 pub call_said : (bytes : List ℕ) (k : ℕ) → first_below (count_of_calls bytes) (call_fault bytes) ≡ None → k < count_of_calls bytes →
     call_numbers (call_at bytes k) ≡ values (call_part bytes k) (call_fields (value (call_part bytes k) call_column))
-call_said bytes k e h = record_said (call_part bytes k) (k + 1) _ (each_none (call_fault bytes) (count_of_calls bytes) k h e)
+call_said bytes k e h = record_said (call_part bytes k) 3 (k + 1) _ (each_none (call_fault bytes) (count_of_calls bytes) k h e)

@@ -96,24 +96,24 @@ abbrev pub settings_fault : List ℕ → Option Fault
 settings_fault bytes = fields_fault (settings_part bytes) 1 1 (start bytes Settings) settings_fields
 
 -- behind earlier contracts: the code is above theirs, and none of them has this underlying with another kind or close
-abbrev pub listing_fault : List Terms → Terms → ℕ → ℕ → Option Fault
-listing_fault earlier t ordinal place =
-    first (faulty (not (above earlier t)) 5 2 ordinal (place + code_column.at))
-    (faulty (clashes_any earlier t) 6 2 ordinal (place + underlying_column.at))
+abbrev pub listing_fault : List Terms → Terms → ℕ → ℕ → ℕ → Option Fault
+listing_fault earlier t section ordinal place =
+    first (faulty (not (above earlier t)) 5 section ordinal (place + code_column.at))
+    (faulty (clashes_any earlier t) 6 section ordinal (place + underlying_column.at))
 
 abbrev pub contract_fault : List ℕ → ℕ → Option Fault
 contract_fault bytes k =
     first (fields_fault (contract_part bytes k) 2 (k + 1) (contract_place bytes k) (contract_fields (day_of bytes)))
-    (listing_fault (terms bytes k) (terms_at bytes k) (k + 1) (contract_place bytes k))
+    (listing_fault (terms bytes k) (terms_at bytes k) 2 (k + 1) (contract_place bytes k))
 
 -- first the call's number, then what that call names
-abbrev pub call_record_fault : List ℕ → ℕ → ℕ → Option Fault
-call_record_fault bytes ordinal place =
-    first (fields_fault bytes 3 ordinal place call_number_fields)
-    (fields_fault bytes 3 ordinal place (argument_fields (names_of (value bytes call_column))))
+abbrev pub call_record_fault : List ℕ → ℕ → ℕ → ℕ → Option Fault
+call_record_fault bytes section ordinal place =
+    first (fields_fault bytes section ordinal place call_number_fields)
+    (fields_fault bytes section ordinal place (argument_fields (names_of (value bytes call_column))))
 
 abbrev pub call_fault : List ℕ → ℕ → Option Fault
-call_fault bytes k = call_record_fault (call_part bytes k) (k + 1) (call_place bytes k)
+call_fault bytes k = call_record_fault (call_part bytes k) 3 (k + 1) (call_place bytes k)
 
 -- the first fault among the first n records
 abbrev pub first_below : ℕ → (ℕ → Option Fault) → Option Fault

@@ -99,9 +99,8 @@ fn list(
     contract: Contract,
     listing: &mut Listing,
 ) -> Result<(), RecordFault>
-    requires section { source.now.section ≡ IsContracts }
-    requires room { length (listed listing.old) < 64 }
-    ensures fault { Passed (listing_fault (listed_terms listing.old) (terms_of contract) source.now.ordinal source.now.place) result }
+    requires { length (listed listing.old) < 64 }
+    ensures fault { Passed (listing_fault (listed_terms listing.old) (terms_of contract) (section_number source.now.section) source.now.ordinal source.now.place) result }
     ensures joined { OnOk result (listed_terms listing.new ≡ listed_terms listing.old ++ terms_of contract ∷ []) }
 {
     match listing.join(contract) {
@@ -121,9 +120,8 @@ fn judge(
     settings: &Settings,
     listing: &mut Listing,
 ) -> Result<(), RecordFault>
-    requires section { source.now.section ≡ IsContracts }
-    requires room { length (listed listing.old) < 64 }
-    ensures fault { Passed (first_fault (fields_fault source.now.bytes.now 2 source.now.ordinal source.now.place (contract_fields settings.now.day)) (listing_fault (listed_terms listing.old) (terms_in source.now.bytes.now) source.now.ordinal source.now.place)) result }
+    requires { length (listed listing.old) < 64 }
+    ensures fault { Passed (first_fault (fields_fault source.now.bytes.now (section_number source.now.section) source.now.ordinal source.now.place (contract_fields settings.now.day)) (listing_fault (listed_terms listing.old) (terms_in source.now.bytes.now) (section_number source.now.section) source.now.ordinal source.now.place)) result }
     ensures joined { OnOk result (listed_terms listing.new ≡ listed_terms listing.old ++ terms_in source.now.bytes.now ∷ []) }
 {
     let contract = contract(source, settings)?;
@@ -132,7 +130,6 @@ fn judge(
 
 // The listing of a file whose contracts section this is.
 pub(crate) fn find(span: &Span, settings: &Settings) -> Result<Listing, SectionFault>
-    requires section { span.now.section ≡ IsContracts }
     requires some { 32 ≤ length span.now.bytes.now }
     requires few { length span.now.bytes.now ≤ 2048 }
     ensures { (bytes : List ℕ) → SpanOf bytes IsContracts span.now → settings.now.day ≡ day_of bytes → ListedFrom bytes result }

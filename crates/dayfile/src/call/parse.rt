@@ -2,7 +2,7 @@
 ghost use Rattle.std.specs.Prelude.{◌≡◌, ℕ, List, length, OnOk};
 ghost use Rattle.ledger.specs.Calls.{kind_number};
 ghost use Rattle.dayfile.specs.declared.fault.Section.TheVariants.{Calls as IsCalls};
-ghost use Rattle.dayfile.specs.Faults.{Passed, SectionPassed};
+ghost use Rattle.dayfile.specs.Faults.{Passed, SectionPassed, section_number};
 ghost use Rattle.dayfile.specs.Fields.{Kept};
 ghost use Rattle.dayfile.specs.Layout.{call_number_fields, use_rule, argument_fields, names_of};
 ghost use Rattle.dayfile.specs.Records.{call_in};
@@ -105,8 +105,7 @@ fn arguments(named: Named) -> [Field; 7]
 }
 
 fn check(source: &Record<CALL>) -> Result<(), RecordFault>
-    requires { source.now.section ≡ IsCalls }
-    ensures fault { Passed (call_record_fault source.now.bytes.now source.now.ordinal source.now.place) result }
+    ensures fault { Passed (call_record_fault source.now.bytes.now (section_number source.now.section) source.now.ordinal source.now.place) result }
     ensures kept { OnOk result (Kept source.now.bytes.now call_number_fields) }
 {
     source.check(&[Field::within(NUMBER, 1, 11)])?;
@@ -119,7 +118,6 @@ fn check(source: &Record<CALL>) -> Result<(), RecordFault>
 
 // Whether each record of the calls is sound.
 pub(crate) fn check_all(span: &Span) -> Result<(), SectionFault>
-    requires { span.now.section ≡ IsCalls }
     ensures fault { (bytes : List ℕ) → SpanOf bytes IsCalls span.now → SectionPassed (first_below (count_of_calls bytes) (call_fault bytes)) result }
     ensures kept { OnOk result (Numbered span.now.bytes.now) }
 {

@@ -1,12 +1,10 @@
-use Rattle.std.proofs.Common.{◌≡◌, ◌+◌, ◌<◌, [], ◌∷◌, ◌++◌, length, map, Some, None, sym, refl, ap, ◌∙◌, subst, arith}
+use Rattle.std.proofs.Common.{◌≡◌, ◌+◌, ◌<◌, [], ◌∷◌, ◌++◌, length, map, None, sym, refl, ap, ◌∙◌, subst, arith}
 use Rattle.std.proofs.lemmas.Bool.{lt-ltb}
 use Rattle.std.proofs.lemmas.List.{length_push}
 use Rattle.std.proofs.lemmas.Result.{err_from_is_err_and}
 use Rattle.margin.specs.Terms.{Terms, terms_of}
 use Rattle.margin.specs.Listing.{listed_terms}
 use Rattle.dayfile.specs.Faults.{record_told, section_number, first}
-use Rattle.dayfile.specs.Fields.{fields_fault}
-use Rattle.dayfile.specs.Layout.{contract_fields}
 use Rattle.dayfile.specs.Records.{terms_in}
 use Rattle.dayfile.specs.Format.{first_below, contract_fault, count_of_contracts, listing_fault, terms}
 use Rattle.dayfile.proofs.Firsts.{first_more, first_found}
@@ -21,12 +19,11 @@ loop-found-init c =
     let at = begun c.records-records.ensures in
     let h = handed at c.in-Some.ensures.steps in
     let day = c.args.settings.now.day in
-    let sound = subst (λ s. fields_fault found.bytes.now (section_number s) found.ordinal found.place (contract_fields day) ≡ None) (h.section_is ∙ c.requires.section) first_is.fault in
     let code : 0 < (terms_in found.bytes.now).code = omega (arith, ap (λ (t : Terms). t.code) first_is.said, c.in_ok-contract.field-0.code_in_range.0) in
-    let listing = lists [] (terms_in found.bytes.now) found.ordinal found.place (lt-ltb 0 _ code) refl in
+    let listing = lists [] (terms_in found.bytes.now) (section_number found.section) found.ordinal found.place (lt-ltb 0 _ code) refl in
     let terms_are = ap (map terms_of) c.of-listing.ensures ∙ ap (λ t. t ∷ []) first_is.said in record {
       sound = λ bytes of is. (
-        sym (record_fault bytes c.args.span.now of 0 found [] refl h day is) ∙ ap (λ o. first o (listing_fault [] (terms_in found.bytes.now) found.ordinal found.place)) sound ∙ listing,
+        sym (record_fault bytes c.args.span.now of 0 found [] refl h day is) ∙ ap (λ o. first o (listing_fault [] (terms_in found.bytes.now) (section_number found.section) found.ordinal found.place)) first_is.fault ∙ listing,
         listed_more bytes c.args.span.now of 0 found [] refl h (listed_terms c.of-listing.result) terms_are,
       );
       many = ap length c.of-listing.ensures;
@@ -66,10 +63,9 @@ returns-in_err-contract c =
     let h = handed (begun c.records-records.ensures) c.in-Some.ensures.steps in
     let day = c.args.settings.now.day in
     let fault = record_told c.in_err-contract.field-0.0 in
-    let broken = subst (λ s. fields_fault found.bytes.now (section_number s) found.ordinal found.place (contract_fields day) ≡ Some fault) (h.section_is ∙ c.requires.section) c.in_err-contract.ensures.fault in
     let p = err_from_is_err_and c.from_residual.result c.from_residual.ensures.1 in
     rw (p.1, p.2) (λ bytes of is. first_found (contract_fault bytes) (count_of_contracts bytes) 0 fault (omega (arith, of.long)) refl
-    (sym (record_fault bytes c.args.span.now of 0 found [] refl h day is) ∙ ap (λ o. first o (listing_fault [] (terms_in found.bytes.now) found.ordinal found.place)) broken))
+    (sym (record_fault bytes c.args.span.now of 0 found [] refl h day is) ∙ ap (λ o. first o (listing_fault [] (terms_in found.bytes.now) (section_number found.section) found.ordinal found.place)) c.in_err-contract.ensures.fault))
 
 pub returns-in_err-judge : goal.returns-in_err-judge
 returns-in_err-judge c =
