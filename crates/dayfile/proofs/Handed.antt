@@ -15,9 +15,9 @@ use Rattle.dayfile.specs.Reading.{Begins, Next}
 
 -- a reader that has handed out k records of w bytes
 pub record At {w : ℕ} (span : Span) (k : ℕ) (r : Reader w) : Type 0 where
-  pub section_is : r.section ≡ span.section
-  pub rest_is : r.bytes.now ≡ drop (w * k) span.bytes.now
-  pub place_is : r.place ≡ span.place + w * k
+  pub section_is : r.rest.section ≡ span.section
+  pub rest_is : r.rest.bytes.now ≡ drop (w * k) span.bytes.now
+  pub place_is : r.rest.place ≡ span.place + w * k
   pub passed_is : r.passed ≡ k
   pub within : w * k ≤ length span.bytes.now
 
@@ -32,15 +32,15 @@ pub record Handed {w : ℕ} (span : Span) (k : ℕ) (found : Record w) : Type 0 
 pub begun : {w : ℕ} {span : Span} {r : Reader w} → Begins span r → At span 0 r
 begun {w = w} {span = span} b =
     let none : w * 0 ≡ 0 = omega arith in record {
-      section_is = b.section;
-      rest_is = b.bytes ∙ ap (λ n. drop n span.bytes.now) (sym none);
-      place_is = omega (arith, b.place, none);
+      section_is = ap (λ (s : Span). s.section) b.rest;
+      rest_is = ap (λ (s : Span). s.bytes.now) b.rest ∙ ap (λ n. drop n span.bytes.now) (sym none);
+      place_is = omega (arith, ap (λ (s : Span). s.place) b.rest, none);
       passed_is = b.passed;
       within = omega (arith, none);
     }
 
 -- what it has left
-pub left : {w : ℕ} {span : Span} {k : ℕ} {r : Reader w} → At span k r → length r.bytes.now + w * k ≡ length span.bytes.now
+pub left : {w : ℕ} {span : Span} {k : ℕ} {r : Reader w} → At span k r → length r.rest.bytes.now + w * k ≡ length span.bytes.now
 left {w = w} {span = span} {k = k} at = omega (arith, ap length at.rest_is, length-drop (w * k) span.bytes.now, at.within)
 
 pub handed : {w : ℕ} {span : Span} {k : ℕ} {r after : Reader w} {found : Record w} → At span k r → Next r found after → Handed span k found
@@ -87,10 +87,10 @@ pub only : {X : Type 0} (F : Section → List ℕ → ℕ → ℕ → X) {w : �
     F found.section found.bytes.now found.ordinal found.place ≡ F span.section span.bytes.now 1 span.place
 only F {w = w} {span = span} {r = r} {found = found} whole b n =
     let all : take w span.bytes.now ≡ span.bytes.now = take_all w span.bytes.now (omega (arith, whole)) in
-    let bytes : found.bytes.now ≡ span.bytes.now = n.bytes ∙ ap (take w) b.bytes ∙ all in
-    let section : found.section ≡ span.section = n.section ∙ b.section in
+    let bytes : found.bytes.now ≡ span.bytes.now = n.bytes ∙ ap (λ (s : Span). take w s.bytes.now) b.rest ∙ all in
+    let section : found.section ≡ span.section = n.section ∙ ap (λ (s : Span). s.section) b.rest in
     let first : found.ordinal ≡ 1 = omega (arith, n.ordinal, b.passed) in
-    let place : found.place ≡ span.place = n.place ∙ b.place in
+    let place : found.place ≡ span.place = n.place ∙ ap (λ (s : Span). s.place) b.rest in
     cc
 
 -- behind the first call the others have their numbers too

@@ -14,16 +14,13 @@ pub(crate) struct Span<'a> {
     ghost in_file: { place + length bytes.now ≤ 60000 },
 }
 
-// What is left of a section of records of W bytes: its bytes, where they stand, and how many records came before.
+// What is left of a section of records of W bytes, and how many records came before.
 #[derive(Drop)]
 pub(crate) struct Reader<'a, const W: usize> {
-    pub(crate) section: Section,
-    pub(crate) bytes: &'a [u8],
-    pub(crate) place: usize,
+    pub(crate) rest: Span<'a>,
     pub(crate) passed: usize,
     ghost wide: { (0 < W) × (W ≤ 60000) },
-    ghost in_file: { place + length bytes.now ≤ 60000 },
-    ghost counted: { passed ≤ place },
+    ghost counted: { passed ≤ rest.place },
 }
 
 // A record of W bytes: its section, its bytes, where they stand, and its ordinal in the section, from 1.

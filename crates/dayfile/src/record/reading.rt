@@ -23,9 +23,7 @@ impl<'a> Span<'a> {
         ensures { Begins self.now result }
     {
         Reader {
-            section: self.section,
-            bytes: self.bytes,
-            place: self.place,
+            rest: *self,
             passed: 0,
         }
     }
@@ -36,16 +34,20 @@ impl<'a, const W: usize> Iterator for Reader<'a, W> {
 
     ghost next_gives = { Gives };
 
-    ghost remaining = { λ s. at_most (length s.bytes.now) };
+    ghost remaining = { λ s. at_most (length s.rest.bytes.now) };
 
     fn next(&mut self) -> Option<Record<'a, W>> {
-        let (bytes, rest) = self.bytes.split_first_chunk()?;
-        let place = self.place;
-        self.bytes = rest;
-        self.place = place + W;
+        let Span {
+            section,
+            bytes,
+            place,
+        } = self.rest;
+        let (bytes, rest) = bytes.split_first_chunk()?;
+        self.rest.bytes = rest;
+        self.rest.place = place + W;
         self.passed += 1;
         Some(Record {
-            section: self.section,
+            section,
             bytes,
             place,
             ordinal: self.passed,
