@@ -12,7 +12,8 @@ use crate::field::Column;
 use crate::record::Span;
 use margin::listing::MOST_CONTRACTS;
 
-const PAIRS: usize = 24;
+// The three pairs, eight bytes each, begin a file; it has no fewer.
+pub(crate) const PAIRS: usize = 24;
 
 pub(crate) const SETTINGS: usize = 20;
 

@@ -7,13 +7,11 @@ use super::{Calls, DayFile};
 use crate::call::parse::{call as parse_call, check_all};
 use crate::contracts::find as find_listing;
 use crate::fault::FileFault;
-use crate::sections::{CALL, locate};
+use crate::sections::{CALL, PAIRS, locate};
 use crate::settings::parse::find as find_settings;
 use ledger::call::Call;
 use ledger::settings::Settings;
 use margin::listing::Listing;
-
-const LEAST: usize = 24;
 
 const MOST: usize = 60_000;
 
@@ -22,7 +20,7 @@ impl<'a> DayFile<'a> {
     pub fn read(bytes: &'a [u8]) -> Result<DayFile<'a>, FileFault>
         ensures { ReadAs bytes.now result }
     {
-        if bytes.len() < LEAST || bytes.len() > MOST {
+        if bytes.len() < PAIRS || bytes.len() > MOST {
             return Err(FileFault::Size);
         }
         let sections = locate(bytes)?;
