@@ -65,10 +65,10 @@ fn contract_in(source: &Record<CONTRACT>, day: u16) -> Contract
 {
     let bytes = source.bytes;
     let Ok(right) = Right::try_from(read(bytes, RIGHT) as u8) else {
-        unreachable()
+        unreachable!()
     };
     let Ok(kind) = Kind::try_from(read(bytes, KIND) as u8) else {
-        unreachable()
+        unreachable!()
     };
     Contract {
         code: read(bytes, CODE) as u32,
@@ -110,7 +110,7 @@ fn list(
             UNDERLYING,
             Breach::UnderlyingClash,
         )),
-        Err(ListingFault::Full) => unreachable(),
+        Err(ListingFault::Full) => unreachable!(),
     }
 }
 
@@ -136,7 +136,7 @@ pub(crate) fn find(span: &Span, settings: &Settings) -> Result<Listing, SectionF
 {
     let mut records = span.records::<CONTRACT>();
     let Some(first) = records.next() else {
-        unreachable()
+        unreachable!()
     };
     let mut listing = Listing::of(contract(&first, settings)?);
     for found in records {

@@ -111,7 +111,7 @@ fn check(source: &Record<CALL>) -> Result<(), RecordFault>
     source.check(&[Field::within(NUMBER, 1, 11)])?;
     let bytes = source.bytes;
     let Ok(kind) = CallKind::try_from(read(bytes, NUMBER) as u8) else {
-        unreachable()
+        unreachable!()
     };
     source.check(&arguments(names(kind)))
 }
@@ -139,7 +139,7 @@ pub(crate) fn call(bytes: &[u8; CALL]) -> Call
     let lots = read(bytes, LOTS) as u32;
     let amount = read(bytes, AMOUNT);
     let Ok(kind) = CallKind::try_from(read(bytes, NUMBER) as u8) else {
-        unreachable()
+        unreachable!()
     };
     match kind {
         CallKind::Deposit => Call::Deposit { amount },

@@ -51,7 +51,7 @@ fn settings_in(source: &Record<SETTINGS>) -> Settings
 {
     let bytes = source.bytes;
     let Ok(scale) = BaseScale::try_from(read(bytes, SCALE) as u8) else {
-        unreachable()
+        unreachable!()
     };
     Settings {
         scale,
@@ -75,7 +75,7 @@ pub(crate) fn find(span: &Span) -> Result<Settings, SectionFault>
     ensures said { IfOk result (λ s. settings_numbers s ≡ values span.now.bytes.now settings_fields) }
 {
     let Some(found) = span.records::<SETTINGS>().next() else {
-        unreachable()
+        unreachable!()
     };
     found.check(&fields())?;
     Ok(settings_in(&found))
