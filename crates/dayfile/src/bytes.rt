@@ -15,7 +15,7 @@ fn little_endian(bytes: &[u8]) -> u64
     u64::from_le_bytes(eight)
 }
 
-// The number that stands in a column.
+// The number that stands in a column. Who reads it narrows it to the column's width by a cast: a function per width would be no shorter.
 pub(crate) fn read(bytes: &[u8], column: Column) -> u64
     requires inside { column.at + column.width ≤ length bytes.now }
     requires narrow { column.width ≤ 8 }

@@ -46,7 +46,7 @@ fn fields(day: u16) -> [Field; 10]
     [
         Field::within(CODE, 10_000_000, 99_999_999),
         Field::within(UNDERLYING, 1, 999_999),
-        Field::within(EXPIRY, day as u64, 65_535),
+        Field::within(EXPIRY, u64::from(day), 65_535),
         Field::within(RIGHT, 1, 2),
         Field::within(KIND, 1, 2),
         Field::within(UNIT, 1, 1_000_000),
