@@ -129,7 +129,7 @@ fn judge(
 }
 
 // The listing of a file whose contracts section this is.
-pub(crate) fn find(span: &Span, settings: &Settings) -> Result<Listing, SectionFault>
+pub(crate) fn listing(span: &Span, settings: &Settings) -> Result<Listing, SectionFault>
     requires some { 32 ≤ length span.now.bytes.now }
     requires few { length span.now.bytes.now ≤ 2048 }
     ensures { (bytes : List ℕ) → SpanOf bytes IsContracts span.now → settings.now.day ≡ day_of bytes → ListedFrom bytes result }

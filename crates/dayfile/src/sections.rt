@@ -38,7 +38,7 @@ fn four(bytes: &[u8], at: usize) -> usize
 }
 
 // The span of a section; the section before it ends at `previous`.
-fn find(bytes: &[u8], section: Section, previous: usize) -> Result<Span<'_>, SectionFault>
+fn span(bytes: &[u8], section: Section, previous: usize) -> Result<Span<'_>, SectionFault>
     requires low { 24 ≤ length bytes.now }
     requires high { length bytes.now ≤ 60000 }
     ensures fault { SectionPassed (pair_fault bytes.now section previous) result }
@@ -80,9 +80,9 @@ pub(crate) fn locate(bytes: &[u8]) -> Result<Sections<'_>, SectionFault>
     ensures fault { SectionPassed (sections_fault bytes.now) result }
     ensures said { IfOk result (λ s. Located bytes.now s) }
 {
-    let settings = find(bytes, Section::Settings, 0)?;
-    let contracts = find(bytes, Section::Contracts, settings.end())?;
-    let calls = find(bytes, Section::Calls, contracts.end())?;
+    let settings = span(bytes, Section::Settings, 0)?;
+    let contracts = span(bytes, Section::Contracts, settings.end())?;
+    let calls = span(bytes, Section::Calls, contracts.end())?;
     check_length(&settings)?;
     check_length(&contracts)?;
     check_length(&calls)?;

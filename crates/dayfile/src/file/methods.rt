@@ -5,10 +5,10 @@ ghost use Rattle.dayfile.specs.Read.{ReadAs, call_of, OwnCall, GivesCall};
 
 use super::{Calls, DayFile};
 use crate::call::parse::{call as parse_call, check_all};
-use crate::contracts::find as find_listing;
+use crate::contracts::listing;
 use crate::fault::FileFault;
 use crate::sections::{CALL, PAIRS, locate};
-use crate::settings::parse::find as find_settings;
+use crate::settings::parse::settings;
 use ledger::call::Call;
 use ledger::settings::Settings;
 use margin::listing::Listing;
@@ -24,8 +24,8 @@ impl<'a> DayFile<'a> {
             return Err(FileFault::Size);
         }
         let sections = locate(bytes)?;
-        let settings = find_settings(&sections.settings)?;
-        let listing = find_listing(&sections.contracts, &settings)?;
+        let settings = settings(&sections.settings)?;
+        let listing = listing(&sections.contracts, &settings)?;
         check_all(&sections.calls)?;
         Ok(DayFile {
             settings,

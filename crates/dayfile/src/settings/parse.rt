@@ -69,7 +69,7 @@ fn settings_in(source: &Record<SETTINGS>) -> Settings
 }
 
 // The settings of a file whose settings section this is.
-pub(crate) fn find(span: &Span) -> Result<Settings, SectionFault>
+pub(crate) fn settings(span: &Span) -> Result<Settings, SectionFault>
     requires { length span.now.bytes.now ≡ 20 }
     ensures fault { SectionPassed (fields_fault span.now.bytes.now (section_number span.now.section) 1 span.now.place settings_fields) result }
     ensures said { IfOk result (λ s. settings_numbers s ≡ values span.now.bytes.now settings_fields) }

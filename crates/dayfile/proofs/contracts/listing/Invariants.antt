@@ -4,7 +4,7 @@ use Rattle.dayfile.specs.declared.fault.Section.TheVariants.{Contracts}
 use Rattle.dayfile.specs.Format.{day_of, first_below, contract_fault, terms}
 use Rattle.dayfile.specs.Located.{SpanOf}
 use Rattle.dayfile.proofs.Handed.{At}
-use Rattle.dayfile.proofs.contracts.find.Given as goal
+use Rattle.dayfile.proofs.contracts.listing.Given as goal
 
 abbrev pub invariant-loop-found : goal.invariant-loop-found
 invariant-loop-found l =

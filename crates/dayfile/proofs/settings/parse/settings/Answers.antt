@@ -7,7 +7,7 @@ use Rattle.dayfile.specs.Faults.{section_number}
 use Rattle.dayfile.specs.Fields.{fields_fault, values}
 use Rattle.dayfile.specs.Layout.{settings_fields}
 use Rattle.dayfile.proofs.Handed.{only}
-use Rattle.dayfile.proofs.settings.parse.find.Goals as goal
+use Rattle.dayfile.proofs.settings.parse.settings.Goals as goal
 
 abbrev judged : List Field → Section → List ℕ → ℕ → ℕ → Option Fault
 judged fs s bytes ordinal place = fields_fault bytes (section_number s) ordinal place fs

@@ -10,7 +10,7 @@ use Rattle.dayfile.specs.Format.{first_below, contract_fault, count_of_contracts
 use Rattle.dayfile.proofs.Firsts.{first_more, first_found}
 use Rattle.dayfile.proofs.Handed.{At, begun, left, handed, moved}
 use Rattle.dayfile.proofs.Listings.{lists, record_fault, listed_more, one_more}
-use Rattle.dayfile.proofs.contracts.find.Goals as goal
+use Rattle.dayfile.proofs.contracts.listing.Goals as goal
 
 pub loop-found-init : goal.loop-found-init
 loop-found-init c =
