@@ -93,12 +93,8 @@ impl Book {
         ensures account { OnOk result ((1 ≤ account) × (account ≤ 8)) }
     {
         check_account(account)?;
-        let Some(one) = self.tables.listing.find(first) else {
-            return Err(Refusal::NotListed);
-        };
-        let Some(other) = self.tables.listing.find(second) else {
-            return Err(Refusal::NotListed);
-        };
+        let one = self.listed(first)?;
+        let other = self.listed(second)?;
         let lots = Lots::new(lots)?;
         let Ok(strategy) = Strategy::try_from(strategy) else {
             return Err(Refusal::LegsDoNotFit);

@@ -72,11 +72,8 @@ impl Book {
         ensures found { IfOk result (λ terms. Found (contracts_of (tables_of self.now)) contract terms.listed) }
         ensures are { IfOk result (λ terms. (terms.lots.number ≡ lots) × (terms.limit.hao ≡ limit)) }
     {
-        let Some(listed) = self.tables.listing.find(contract) else {
-            return Err(Refusal::NotListed);
-        };
         Ok(Terms {
-            listed,
+            listed: self.listed(contract)?,
             lots: Lots::new(lots)?,
             limit: Price::new(limit)?,
         })

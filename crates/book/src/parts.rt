@@ -1,10 +1,14 @@
 // Checks and checked values that several calls share.
 ghost use Rattle.std.specs.Prelude.{◌≡◌, ◌+◌, ◌-◌, ◌*◌, ◌^◌, ◌≤◌, [], ◌∷◌, IfOk, nat_lt};
-ghost use Rattle.ledger.specs.Tests.{bad_account, bad_lots, bad_price};
-ghost use Rattle.book.specs.Checks.{Passes};
+ghost use Rattle.ledger.specs.Law.{contracts_of};
+ghost use Rattle.ledger.specs.Tests.{bad_account, bad_lots, bad_price, not_listed};
+ghost use Rattle.book.specs.Book.{tables_of};
+ghost use Rattle.book.specs.Checks.{Passes, Found};
 
+use crate::Book;
 use ledger::refusal::Refusal;
 use margin::contract::{Contract, HIGHEST_PRICE};
+use margin::listing::Listed;
 
 const ACCOUNTS: u8 = 8;
 
@@ -90,4 +94,14 @@ pub(crate) fn check_free(owned: u32, locked: u32, lots: Lots) -> Result<(), Refu
         return Err(Refusal::TooFewLots);
     }
     Ok(())
+}
+
+impl Book {
+    // A listed contract and its place.
+    pub(crate) fn listed(&self, contract: u32) -> Result<Listed, Refusal>
+        ensures tests { Passes (not_listed (tables_of self.now) contract ∷ []) result }
+        ensures found { IfOk result (λ listed. Found (contracts_of (tables_of self.now)) contract listed) }
+    {
+        self.tables.listing.find(contract).ok_or(Refusal::NotListed)
+    }
 }

@@ -44,9 +44,7 @@ impl Book {
         ensures { PositionAsked (tables_of self.now) account contract result }
     {
         check_account(account)?;
-        let Some(listed) = self.tables.listing.find(contract) else {
-            return Err(Refusal::NotListed);
-        };
+        let listed = self.listed(contract)?;
         Ok(self.tables.positions[position_row(account, listed.place)])
     }
 
