@@ -11,6 +11,7 @@ use Rattle.ledger.specs.declared.tables.Tables.{Tables}
 use Rattle.ledger.specs.Law.{contracts_of}
 use Rattle.ledger.specs.Moves.{content}
 use Rattle.ledger.specs.Runs.{Fitted, SoundCombination}
+use Rattle.book.specs.declared.moves.Flow.{Flow}
 
 -- every standing combination's legs are listed and fit
 abbrev pub AllFitted : Tables → Type 0
@@ -26,6 +27,13 @@ pub record FundsWithin (f : Funds) : Type 0 where
   pub held : f.held ≤ 10 ^ 17
   pub reserved : f.reserved ≤ 10 ^ 17
   pub cash : f.cash ≤ 10 ^ 17
+
+-- what moves the funds stays small enough to be summed
+pub record FlowWithin (f : Flow) : Type 0 where
+  pub reserve : f.reserve ≤ 10 ^ 18
+  pub received : f.received ≤ 10 ^ 18
+  pub back : f.back ≤ 10 ^ 18
+  pub taken : f.taken ≤ 10 ^ 18
 
 -- the fitted pair of a combination
 pub record PairOf (cs : List Contract) (k : Combination) (pair : FittedPair) : Type 0 where

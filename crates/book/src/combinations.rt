@@ -12,7 +12,7 @@ ghost use Rattle.ledger.specs.Runs.{Kept};
 ghost use Rattle.ledger.specs.Keeps.{KeptBy};
 ghost use Rattle.book.specs.Book.{tables_of};
 ghost use Rattle.book.specs.Checks.{Passes};
-ghost use Rattle.book.specs.Facts.{FundsWithin, PairNamed};
+ghost use Rattle.book.specs.Facts.{FundsWithin, FlowWithin, PairNamed};
 
 use crate::Book;
 use crate::moves::{Flow, NO_FLOW};
@@ -68,10 +68,10 @@ struct Legs {
 
 impl Book {
     // Whether the balance covers what is taken beyond what comes back.
-    fn check_balance(&self, back: u64, taken: u64) -> Result<(), Refusal>
-        ensures { Passes ((21, nat_lt (tables_of self.now).funds.balance (taken - back)) ∷ []) result }
+    fn check_balance(&self, flow: Flow) -> Result<(), Refusal>
+        ensures { Passes ((21, nat_lt (tables_of self.now).funds.balance (flow.taken - flow.back)) ∷ []) result }
     {
-        if self.tables.funds.balance < taken.saturating_sub(back) {
+        if self.tables.funds.balance < flow.taken.saturating_sub(flow.back) {
             return Err(Refusal::TooLittleBalance);
         }
         Ok(())
@@ -114,20 +114,13 @@ impl Book {
     fn enter_combination(
         &mut self,
         combination: Combination,
-        back: u64,
-        taken: u64,
+        flow: Flow,
     ) -> Result<(u32, u64), Refusal>
         requires funds { FundsWithin (tables_of self.old).funds }
-        requires back { back ≤ 10 ^ 18 }
-        requires taken { taken ≤ 10 ^ 18 }
-        ensures { ByTests (pair_entry_tests (tables_of self.old) back taken) (tables_of self.old) result (tables_of self.new) (CombinationTaken (tables_of self.old) combination (funds_to (fill_funds 0 0 0 back taken (tables_of self.old).funds) (tables_of self.old))) }
+        requires flow { FlowWithin flow }
+        ensures { ByTests (pair_entry_tests (tables_of self.old) flow.back flow.taken) (tables_of self.old) result (tables_of self.new) (CombinationTaken (tables_of self.old) combination (funds_to (fill_funds flow.reserve flow.received flow.paid flow.back flow.taken (tables_of self.old).funds) (tables_of self.old))) }
     {
-        self.check_balance(back, taken)?;
-        let flow = Flow {
-            back,
-            taken,
-            ..NO_FLOW
-        };
+        self.check_balance(flow)?;
         let number = register::add(
             &mut self.tables.combinations,
             &mut self.tables.combination_series,
@@ -168,9 +161,12 @@ impl Book {
             lots,
             engaged: 0,
         };
-        let back = legs.lots.times(legs.pair.legs_sum(scale));
-        let taken = legs.lots.times(scale.pair(&legs.pair));
-        let answer = self.enter_combination(combination, back, taken)?;
+        let flow = Flow {
+            back: legs.lots.times(legs.pair.legs_sum(scale)),
+            taken: legs.lots.times(scale.pair(&legs.pair)),
+            ..NO_FLOW
+        };
+        let answer = self.enter_combination(combination, flow)?;
         lock(
             &mut self.tables.positions[legs.first],
             first_side(strategy),
@@ -201,14 +197,12 @@ impl Book {
         };
         check_free(entry.lots, entry.engaged, lots)?;
         let pair = self.fitted_pair(&entry);
-        let back = lots.times(scale.pair(&pair));
-        let taken = lots.times(pair.legs_sum(scale));
-        self.check_balance(back, taken)?;
         let flow = Flow {
-            back,
-            taken,
+            back: lots.times(scale.pair(&pair)),
+            taken: lots.times(pair.legs_sum(scale)),
             ..NO_FLOW
         };
+        self.check_balance(flow)?;
         self.settle(flow);
         self.take_off_combination(combination, &entry, lots.number, 0);
         let first = self.row_of(entry.account, entry.first);

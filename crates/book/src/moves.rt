@@ -5,7 +5,7 @@ ghost use Rattle.ledger.specs.Law.{contracts_of, position_row as row_of};
 ghost use Rattle.ledger.specs.Moves.{funds_to, orders_to, combinations_to, order_rest, combination_rest};
 ghost use Rattle.ledger.specs.Runs.{Listed as IsListed};
 ghost use Rattle.book.specs.Book.{tables_of};
-ghost use Rattle.book.specs.Facts.{FundsWithin};
+ghost use Rattle.book.specs.Facts.{FundsWithin, FlowWithin};
 
 use crate::Book;
 use crate::positions::position_row;
@@ -35,10 +35,7 @@ impl Book {
     // Each call asks FundsWithin anew: it does not hold between two steps of a call, so it is no invariant of the book.
     pub(crate) fn settle(&mut self, flow: Flow)
         requires funds { FundsWithin (tables_of self.old).funds }
-        requires reserve { flow.reserve ≤ 10 ^ 18 }
-        requires received { flow.received ≤ 10 ^ 18 }
-        requires back { flow.back ≤ 10 ^ 18 }
-        requires taken { flow.taken ≤ 10 ^ 18 }
+        requires flow { FlowWithin flow }
         ensures { tables_of self.new ≡ funds_to (fill_funds flow.reserve flow.received flow.paid flow.back flow.taken (tables_of self.old).funds) (tables_of self.old) }
     {
         let funds = self.tables.funds;
