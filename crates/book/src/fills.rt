@@ -52,6 +52,24 @@ struct WorkingOrder {
     ghost limit: { (1 ≤ order.limit) × (order.limit ≤ 10 ^ 7) },
 }
 
+impl WorkingOrder {
+    fn lots(&self) -> Lots
+        ensures { result.number ≡ self.now.order.lots }
+    {
+        Lots {
+            number: self.order.lots,
+        }
+    }
+
+    fn limit(&self) -> Price
+        ensures { result.hao ≡ self.now.order.limit }
+    {
+        Price {
+            hao: self.order.limit,
+        }
+    }
+}
+
 // Whether a price is worse than an order's limit: a sale under it, a purchase over it.
 fn past_limit(order: &Order, price: u64) -> bool
     ensures { result ≡ past_limit_of order.now price }
@@ -70,7 +88,7 @@ impl Book {
         ensures { tables_of self.new ≡ freed (tables_of self.old) working.now.order.kind working.now.order (tables_of self.old) }
     {
         let order = working.order;
-        let lots = Lots { number: order.lots };
+        let lots = working.lots();
         match order.kind {
             OrderKind::SellOpen { .. } | OrderKind::BuyOpen { .. } => {}
             OrderKind::BuyClose { contract } => {
@@ -137,10 +155,7 @@ impl Book {
             return;
         };
         let pair = self.fitted_pair(&combination);
-        let limit = Price {
-            hao: working.order.limit,
-        };
-        let reserve = self.leg_close_reserve(scale, &combination, leg, limit);
+        let reserve = self.leg_close_reserve(scale, &combination, leg, working.limit());
         let flow = Flow {
             reserve: lots.times(reserve),
             paid: self.premium_of(leg, lots, price),
@@ -176,7 +191,7 @@ impl Book {
         ensures { tables_of self.new ≡ traded (meaning S.LegScale.leg_of S.CombinationScale.pair_of scale.now) (tables_of self.old) working.now.order working.now.order.kind lots.number price.hao (tables_of self.old) }
     {
         let order = working.order;
-        let limit = Price { hao: order.limit };
+        let limit = working.limit();
         let row = self.row_of(order.account, contract_of(order.kind));
         match order.kind {
             OrderKind::SellOpen { contract } => {
@@ -260,14 +275,14 @@ impl Book {
         let Some(entry) = register::find(&self.tables.orders, order) else {
             return Err(Refusal::NotStanding);
         };
-        let lots = Lots { number: entry.lots };
-        let limit = Price { hao: entry.limit };
+        let working = WorkingOrder { order: entry };
+        let reserve = self.order_reserve(scale, entry.kind, working.limit());
         let flow = Flow {
-            reserve: lots.times(self.order_reserve(scale, entry.kind, limit)),
+            reserve: working.lots().times(reserve),
             ..NO_FLOW
         };
         let _ = register::remove(&mut self.tables.orders, order);
-        self.free(&WorkingOrder { order: entry });
+        self.free(&working);
         self.settle(flow);
         Ok((0, self.tables.funds.balance))
     }

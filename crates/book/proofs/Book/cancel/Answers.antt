@@ -5,8 +5,8 @@ use Rattle.ledger.specs.declared.call.Call.TheVariants.{Cancel}
 use Rattle.book.proofs.Lawful.{all_fitted, order_sound}
 use Rattle.book.proofs.Book.cancel.Goals as goal
 
-pub order_reserve-requires : goal.order_reserve-requires
-order_reserve-requires g c =
+pub order_reserve-reserve-requires : goal.order_reserve-reserve-requires
+order_reserve-reserve-requires g c =
     let m : Meaning = meaning g.S.LegScale.leg_of g.S.CombinationScale.pair_of c.args.scale.now in
     let b = c.args.self.now.tables in
     let k = c.requires.its_scale in
