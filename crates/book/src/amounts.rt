@@ -35,10 +35,7 @@ impl Book {
         ensures premium { result ≡ premium_of (contracts_of (tables_of self.now)) contract lots.number price.hao }
         ensures most { result ≤ 10 ^ 16 }
     {
-        self.tables
-            .listing
-            .find(contract)
-            .map_or(0, |listed| lots.premium(price, &listed.contract))
+        lots.times(self.lot_at(contract, price))
     }
 
     // One lot at a price; 0 where the contract is not listed.
@@ -49,7 +46,7 @@ impl Book {
         self.tables
             .listing
             .find(contract)
-            .map_or(0, |listed| price.hao * listed.contract.unit as u64)
+            .map_or(0, |listed| price.per_lot(&listed.contract))
     }
 
     // The fitted pair of a standing combination.

@@ -55,15 +55,6 @@ impl Lots {
     {
         self.number as u64 * per_lot
     }
-
-    // These lots at a price, over all units of the contract, in hao.
-    pub(crate) fn premium(self, price: Price, contract: &Contract) -> u64
-        ensures reserve { result ≡ self.number * (price.hao * contract.now.unit) }
-        ensures premium { result ≡ self.number * price.hao * contract.now.unit }
-        ensures most { result ≤ 10 ^ 16 }
-    {
-        self.number as u64 * (price.hao * contract.unit as u64)
-    }
 }
 
 // A price of 1 to 10,000,000 hao.
@@ -83,6 +74,14 @@ impl Price {
             return Err(Refusal::PriceOutOfRange);
         }
         Ok(Price { hao })
+    }
+
+    // One lot at this price, over all units of the contract, in hao.
+    pub(crate) fn per_lot(self, contract: &Contract) -> u64
+        ensures is { result ≡ self.hao * contract.now.unit }
+        ensures most { result ≤ 10 ^ 13 }
+    {
+        self.hao * contract.unit as u64
     }
 }
 

@@ -20,7 +20,7 @@ lock-requires g c =
     let terms = c.in_ok-terms.terms in
     let order : Order = record { account = a; kind = BuyCloseKind code; lots = lots; limit = limit } in
     let row = c.position_row-row.result in
-    let few = lockable m b c.requires.its_scale a code h.account.0 h.account.1 terms.listed h.found order c.premium-reserve.result c.in_ok-answer.answer c.enter.new.self.tables c.in_ok-answer.ensures.1 row (row_is b code terms.listed h.found a row c.position_row-row.ensures.is) in
+    let few = lockable m b c.requires.its_scale a code h.account.0 h.account.1 terms.listed h.found order c.times-reserve.result c.in_ok-answer.answer c.enter.new.self.tables c.in_ok-answer.ensures.1 row (row_is b code terms.listed h.found a row c.position_row-row.ensures.is) in
     few.written
 
 pub returns-clause-law : goal.returns-clause-law
