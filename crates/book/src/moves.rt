@@ -1,5 +1,6 @@
 // The movements that calls are made of: funds, and lots off an order or a combination.
-ghost use Rattle.std.specs.Prelude.{◌≡◌, ◌^◌, ◌<◌, ◌≤◌};
+ghost use Rattle.std.specs.Prelude.{◌≡◌, ◌^◌, ◌<◌, ◌≤◌, MatchOption};
+ghost use Rattle.register.specs.Rows.{changed, removed};
 ghost use Rattle.ledger.specs.FillRules.{fill_funds};
 ghost use Rattle.ledger.specs.Law.{contracts_of, position_row as row_of};
 ghost use Rattle.ledger.specs.Moves.{funds_to, orders_to, combinations_to, order_rest, combination_rest};
@@ -11,6 +12,7 @@ use crate::Book;
 use crate::positions::position_row;
 use ledger::order::{Combination, Order};
 use ledger::tables::Funds;
+use register::row::Row;
 
 // What a call moves of the funds: a reserve and margin that come back, a premium received or paid, and margin taken.
 #[derive(Clone, Copy)]
@@ -29,6 +31,16 @@ pub(crate) const NO_FLOW: Flow = Flow {
     back: 0,
     taken: 0,
 };
+
+// Puts what is left of an entry in its place; where nothing is, removes it.
+fn put<T: Copy>(rows: &mut [Row<T>], number: u32, rest: Option<T>)
+    ensures { MatchOption rest (rows.new ≡ removed rows.old number) (λ entry. rows.new ≡ changed rows.old number entry) }
+{
+    let _ = match rest {
+        Some(entry) => register::change(rows, number, entry),
+        None => register::remove(rows, number),
+    };
+}
 
 impl Book {
     // Moves the funds by a flow. Nothing here stops at nought: the law shows that what is taken away was there.
@@ -66,19 +78,14 @@ impl Book {
     pub(crate) fn take_off_order(&mut self, number: u32, order: &Order, lots: u32)
         ensures { tables_of self.new ≡ orders_to (order_rest number lots order.now (tables_of self.old).orders) (tables_of self.old).order_series (tables_of self.old) }
     {
-        if order.lots <= lots {
-            let _ = register::remove(&mut self.tables.orders, number);
-        } else {
-            let rest = Order {
-                lots: order.lots - lots,
-                ..*order
-            };
-            let _ = register::change(&mut self.tables.orders, number, rest);
-        }
+        let rest = (order.lots > lots).then(|| Order {
+            lots: order.lots - lots,
+            ..*order
+        });
+        put(&mut self.tables.orders, number, rest);
     }
 
     // Takes lots off a combination, some of them engaged; with none left it is removed.
-    // Close to take_off_order, but for the engaged lots: one text over a trait for both entries would be longer than the two.
     pub(crate) fn take_off_combination(
         &mut self,
         number: u32,
@@ -88,15 +95,11 @@ impl Book {
     )
         ensures { tables_of self.new ≡ combinations_to (combination_rest number lots engaged combination.now (tables_of self.old).combinations) (tables_of self.old).combination_series (tables_of self.old) }
     {
-        if combination.lots <= lots {
-            let _ = register::remove(&mut self.tables.combinations, number);
-        } else {
-            let rest = Combination {
-                lots: combination.lots - lots,
-                engaged: combination.engaged.saturating_sub(engaged),
-                ..*combination
-            };
-            let _ = register::change(&mut self.tables.combinations, number, rest);
-        }
+        let rest = (combination.lots > lots).then(|| Combination {
+            lots: combination.lots - lots,
+            engaged: combination.engaged.saturating_sub(engaged),
+            ..*combination
+        });
+        put(&mut self.tables.combinations, number, rest);
     }
 }
