@@ -44,7 +44,7 @@ fn put<T: Copy>(rows: &mut [Row<T>], number: u32, rest: Option<T>)
 
 impl Book {
     // Moves the funds by a flow. Nothing here stops at nought: the law shows that what is taken away was there.
-    // Each call asks FundsWithin anew: it does not hold between two steps of a call, so it is no invariant of the book.
+    // It cannot show that every flow keeps the funds within, so that is no invariant of the book; a call moves the funds once.
     pub(crate) fn settle(&mut self, flow: Flow)
         requires funds { FundsWithin (tables_of self.old).funds }
         requires flow { FlowWithin flow }
