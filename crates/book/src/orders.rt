@@ -47,7 +47,7 @@ fn working_lots(rows: &[Row<Order>], side: Side, account: u8, contract: u32) -> 
         .map(|row| if row.number == FREE {
             0
         } else {
-            lots_opened(&row.entry, side, account, contract) as u64
+            u64::from(lots_opened(&row.entry, side, account, contract))
         })
         .sum()
 }
@@ -108,7 +108,8 @@ impl Book {
         ensures { Passes (too_many (owned_on side position.now) (working_sum (tables_of self.now).orders (opens side account contract)) lots ∷ []) result }
     {
         let working = working_lots(&self.tables.orders, side, account, contract);
-        if working.saturating_add(owned(position, side) as u64 + lots as u64) > MOST_LOTS_OF_SIDE {
+        let more = u64::from(owned(position, side)) + u64::from(lots);
+        if working.saturating_add(more) > MOST_LOTS_OF_SIDE {
             return Err(Refusal::PositionLimit);
         }
         Ok(())

@@ -53,7 +53,7 @@ impl Lots {
         ensures is { result ≡ self.number * per_lot }
         ensures most { result ≤ 2 * 10 ^ 17 }
     {
-        self.number as u64 * per_lot
+        u64::from(self.number) * per_lot
     }
 }
 
@@ -81,7 +81,7 @@ impl Price {
         ensures is { result ≡ self.hao * contract.now.unit }
         ensures most { result ≤ 10 ^ 13 }
     {
-        self.hao * contract.unit as u64
+        self.hao * u64::from(contract.unit)
     }
 }
 
@@ -89,7 +89,7 @@ impl Price {
 pub(crate) fn check_free(owned: u32, locked: u32, lots: Lots) -> Result<(), Refusal>
     ensures { Passes ((18, nat_lt (owned - locked) lots.number) ∷ []) result }
 {
-    if (owned as u64) < locked as u64 + lots.number as u64 {
+    if u64::from(owned) < u64::from(locked) + u64::from(lots.number) {
         return Err(Refusal::TooFewLots);
     }
     Ok(())
