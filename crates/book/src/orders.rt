@@ -176,7 +176,9 @@ impl Book {
         let terms = self.check_terms(account, contract, lots, limit)?;
         let position = self.tables.positions[position_row(account, terms.listed.place)];
         self.check_room(&position, Side::Bought, account, contract, lots)?;
-        let reserve = terms.lots.times(terms.limit.per_lot(&terms.listed.contract));
+        let reserve = terms
+            .lots
+            .times(terms.limit.per_lot(&terms.listed.contract));
         let kind = OrderKind::BuyOpen { contract };
         let order = Order {
             account,
@@ -203,7 +205,9 @@ impl Book {
         let terms = self.check_terms(account, contract, lots, limit)?;
         let row = position_row(account, terms.listed.place);
         check_free_lots(&self.tables.positions[row], Side::Written, terms.lots)?;
-        let reserve = terms.lots.times(terms.limit.per_lot(&terms.listed.contract));
+        let reserve = terms
+            .lots
+            .times(terms.limit.per_lot(&terms.listed.contract));
         let kind = OrderKind::BuyClose { contract };
         let order = Order {
             account,
