@@ -46,19 +46,25 @@ impl fmt::Display for EndLine {
     }
 }
 
+// Line by line.
+impl fmt::Display for Report {
+    ghost output = { λ x. Just (report_text x) };
+
+    fn fmt<W: fmt::Write>(&self, f: &mut fmt::Formatter<W>) -> fmt::Result {
+        writeln!(f, "{}", self.opening)?;
+        for line in &self.calls {
+            writeln!(f, "{line}")?;
+        }
+        writeln!(f, "{}", self.end)
+    }
+}
+
 impl Report {
-    // The whole report as text, line by line.
-    #[tactic(auto, using(std::proofs::lemmas::List::flat_map_more, std::proofs::lemmas::List::take_more))]
+    // The whole report as text.
     pub fn text(&self, heap: Global) -> Result<Vec<u8>, AllocError>
         ensures { IfOk result (λ s. s.items ≡ report_text self.now) }
     {
-        let mut text = String::new(heap);
-        writeln!(text, "{}", self.opening)?;
-        for line in &self.calls {
-            writeln!(text, "{line}")?;
-        }
-        writeln!(text, "{}", self.end)?;
-        Ok(text.into_bytes())
+        Ok(self.to_string(heap)?.into_bytes())
     }
 }
 
