@@ -17,7 +17,7 @@ use Rattle.ledger.specs.Runs.{Law}
 use Rattle.ledger.specs.Tests.{first_met, meets, no_row, no_number}
 use Rattle.ledger.proofs.Codes.{held_here, held_else}
 use Rattle.ledger.proofs.Tests.{met_front}
-use Rattle.book.proofs.Lawful.{FewLocked, locked_few}
+use Rattle.book.proofs.Lawful.{FewLocked, still_few, locked_few}
 
 module _ (m : Meaning) (b : Tables) (a first second lots : ℕ) where
   abbrev legs : Strategy → ℕ
@@ -45,5 +45,5 @@ module _ (m : Meaning) (b : Tables) (l : Ledger) (law : Law m l b) (a : ℕ) (lo
       let same : second ≡ first → FewLocked (position_of (at a first (lock_first s lots) b) a second) 11000 =
       λ e. subst (λ z. FewLocked (position_of (at a first (lock_first s lots) b) a z) 11000) (sym e) (subst (λ p. FewLocked p 11000) (sym (held_here b law.sound.count law.sound.position_rows a first c low high is (lock_first s lots))) more) in
       let else : (second ≡ first → ⊥) → FewLocked (position_of (at a first (lock_first s lots) b) a second) 11000 =
-      λ ne. subst (λ p. FewLocked p 11000) (sym (held_else b law.sound.count law.sound.position_rows a first c low high is (lock_first s lots) a second d low is₂ (λ z. ne z.1))) (record { bought = omega (arith, k.bought); written = omega (arith, k.written) }) in
+      λ ne. subst (λ p. FewLocked p 11000) (sym (held_else b law.sound.count law.sound.position_rows a first c low high is (lock_first s lots) a second d low is₂ (λ z. ne z.1))) (still_few k) in
       ⊎_elim same else (cases_eq second first)

@@ -13,7 +13,7 @@ use Rattle.ledger.specs.Ledger.{Ledger, under}
 use Rattle.ledger.specs.Law.{contracts_of, combination_under, position_of, engaged}
 use Rattle.ledger.specs.Moves.{content}
 use Rattle.ledger.specs.Runs.{Law, SoundCombination, SoundOrder}
-use Rattle.std.proofs.lemmas.Option.{same_Some}
+use Rattle.std.proofs.lemmas.Option.{same_Some, none-some}
 use Rattle.book.specs.declared.positions.Side.{Side}
 use Rattle.book.specs.declared.positions.Side.TheVariants.{Bought, Written}
 use Rattle.book.specs.Sides.{locked_on}
@@ -26,13 +26,16 @@ pub record Shown (eng : ℕ) (o : Option Pairing) (k : Combination) : Type 0 whe
   pub engaged_is : k.engaged ≡ eng
 
 shown : (eng : ℕ) (o : Option Pairing) (k : Combination) → combination_under eng o ≡ Some k → Shown eng o k
-shown eng None k e = let z : ◌≡◌ {A = ℕ} 0 1 = cc in absurd (omega arith)
+shown eng None k e = absurd (none-some k e)
 shown eng (Some p) k e = record { pairing = p; stands = refl; content_is = ap content (same_Some _ _ e); engaged_is = sym (ap (λ (x : Combination). x.engaged) (same_Some _ _ e)) }
 
 -- what is locked stays small enough for lots more
 pub record FewLocked (p : Position) (most : ℕ) : Type 0 where
   pub bought : p.locked_bought ≤ most
   pub written : p.locked_written ≤ most
+
+pub still_few : {p : Position} → FewLocked p 10000 → FewLocked p 11000
+still_few few = record { bought = omega (arith, few.bought); written = omega (arith, few.written) }
 
 pub few_on : {p : Position} {most : ℕ} (side : Side) → FewLocked p most → locked_on side p ≤ most
 few_on Bought few = few.bought

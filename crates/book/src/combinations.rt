@@ -17,7 +17,7 @@ ghost use Rattle.book.specs.Facts.{FundsWithin, FlowWithin, PairNamed};
 use crate::Book;
 use crate::moves::{Flow, NO_FLOW};
 use crate::parts::{Lots, check_account, check_free};
-use crate::positions::{Side, check_free_lots, first_side, lock, position_row, unlock};
+use crate::positions::{Side, check_free_on, first_side, lock, position_row, unlock};
 use ledger::order::{Combination, Order, OrderKind};
 use ledger::refusal::Refusal;
 use ledger::tables::Position;
@@ -53,8 +53,8 @@ fn check_legs(
 ) -> Result<(), Refusal>
     ensures { Passes ((18, nat_lt (free_first strategy first.now) lots.number || nat_lt (free_written second.now) lots.number) ∷ []) result }
 {
-    check_free_lots(first, first_side(strategy), lots)?;
-    check_free_lots(second, Side::Written, lots)
+    check_free_on(first, first_side(strategy), lots)?;
+    check_free_on(second, Side::Written, lots)
 }
 
 // A pair that fits, the rows of an account's lots of its legs, and the lots that are combined.
@@ -244,7 +244,7 @@ impl Book {
         ensures answer { LegCloseRule (meaning S.LegScale.leg_of S.CombinationScale.pair_of scale.now) (tables_of self.old) combination leg lots limit result (tables_of self.new) }
         ensures law { KeptBy (meaning S.LegScale.leg_of S.CombinationScale.pair_of scale.now) (tables_of self.old) (LegCloseCall combination leg lots limit) result (tables_of self.new) }
     {
-        let terms = self.check_contract(leg, lots, limit)?;
+        let terms = self.check_leg_terms(leg, lots, limit)?;
         let Some(entry) = register::find(&self.tables.combinations, combination) else {
             return Err(Refusal::NotStanding);
         };

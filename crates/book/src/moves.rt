@@ -24,6 +24,7 @@ pub(crate) struct Flow {
     pub(crate) taken: u64,
 }
 
+// No derived Default: tried, and the proof of combine's answer did not close over it.
 pub(crate) const NO_FLOW: Flow = Flow {
     reserve: 0,
     received: 0,

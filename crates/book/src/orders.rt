@@ -1,5 +1,5 @@
 // Sell open, buy open, buy close and sell close.
-// Four calls by rule: they share check_terms, check_room or check_free_lots, enter and lock, and differ in reserve and kind besides.
+// Four calls by rule: they share check_terms, check_room or check_free_on, enter and lock, and differ in reserve and kind besides.
 ghost use Rattle.std.specs.Prelude.{◌≡◌, ◌+◌, ◌^◌, ◌<◌, ◌≤◌, [], ◌∷◌, length, IfOk, OnOk};
 ghost use Rattle.margin.specs.Meaning.{meaning};
 ghost use Rattle.ledger.specs.declared.call.Call.TheVariants.{SellOpen as SellOpenCall, BuyOpen as BuyOpenCall, BuyClose as BuyCloseCall, SellClose as SellCloseCall};
@@ -15,7 +15,7 @@ ghost use Rattle.book.specs.Sides.{opens, owned_on};
 
 use crate::Book;
 use crate::parts::{Lots, Price, check_account};
-use crate::positions::{Side, check_free_lots, lock, owned, position_row};
+use crate::positions::{Side, check_free_on, lock, owned, position_row};
 use ledger::order::{Order, OrderKind};
 use ledger::refusal::Refusal;
 use ledger::tables::Position;
@@ -62,7 +62,7 @@ pub(crate) struct Terms {
 
 impl Book {
     // The terms of an order, once its contract is listed, and its lots and limit are found good.
-    pub(crate) fn check_contract(
+    pub(crate) fn check_leg_terms(
         &self,
         contract: u32,
         lots: u32,
@@ -93,7 +93,7 @@ impl Book {
         ensures account { OnOk result ((1 ≤ account) × (account ≤ 8)) }
     {
         check_account(account)?;
-        self.check_contract(contract, lots, limit)
+        self.check_leg_terms(contract, lots, limit)
     }
 
     // Whether lots may be opened beside those owned on the side and those working to open there.
@@ -176,9 +176,8 @@ impl Book {
         let terms = self.check_terms(account, contract, lots, limit)?;
         let position = self.tables.positions[position_row(account, terms.listed.place)];
         self.check_room(&position, Side::Bought, account, contract, lots)?;
-        let reserve = terms
-            .lots
-            .times(terms.limit.per_lot(&terms.listed.contract));
+        let per_lot = terms.limit.per_lot(&terms.listed.contract);
+        let reserve = terms.lots.times(per_lot);
         let kind = OrderKind::BuyOpen { contract };
         let order = Order {
             account,
@@ -204,10 +203,9 @@ impl Book {
     {
         let terms = self.check_terms(account, contract, lots, limit)?;
         let row = position_row(account, terms.listed.place);
-        check_free_lots(&self.tables.positions[row], Side::Written, terms.lots)?;
-        let reserve = terms
-            .lots
-            .times(terms.limit.per_lot(&terms.listed.contract));
+        check_free_on(&self.tables.positions[row], Side::Written, terms.lots)?;
+        let per_lot = terms.limit.per_lot(&terms.listed.contract);
+        let reserve = terms.lots.times(per_lot);
         let kind = OrderKind::BuyClose { contract };
         let order = Order {
             account,
@@ -235,7 +233,7 @@ impl Book {
     {
         let terms = self.check_terms(account, contract, lots, limit)?;
         let row = position_row(account, terms.listed.place);
-        check_free_lots(&self.tables.positions[row], Side::Bought, terms.lots)?;
+        check_free_on(&self.tables.positions[row], Side::Bought, terms.lots)?;
         let kind = OrderKind::SellClose { contract };
         let order = Order {
             account,

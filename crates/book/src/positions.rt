@@ -60,7 +60,7 @@ fn locked(position: &Position, side: Side) -> u32
 }
 
 // Whether a side has that many lots that are not locked.
-pub(crate) fn check_free_lots(position: &Position, side: Side, lots: Lots) -> Result<(), Refusal>
+pub(crate) fn check_free_on(position: &Position, side: Side, lots: Lots) -> Result<(), Refusal>
     ensures { Passes ((18, nat_lt (free_on side position.now) lots.number) ∷ []) result }
 {
     check_free(owned(position, side), locked(position, side), lots)

@@ -5,13 +5,14 @@ use Rattle.margin.specs.Strategies.{strategy_of}
 use Rattle.ledger.specs.declared.call.Call.TheVariants.{Combine}
 use Rattle.ledger.specs.declared.tables.Tables.{Tables}
 use Rattle.ledger.specs.CombinationRules.{CombineRule}
-use Rattle.ledger.specs.Law.{position_of, position_row, none}
+use Rattle.ledger.specs.Law.{position_row, none}
 use Rattle.ledger.specs.Moves.{at, position_to, lock_first}
 use Rattle.ledger.specs.Refusals.{number_of}
 use Rattle.book.proofs.Answering.{passed_on}
 use Rattle.book.proofs.Moving.{moved_at, locking_first}
 use Rattle.book.proofs.Combining.{no_pair, second_few}
-use Rattle.book.proofs.Lawful.{FewLocked, few_on, locked_few}
+use Rattle.book.proofs.Ordering.{lockable}
+use Rattle.book.proofs.Lawful.{FewLocked, few_on}
 use Rattle.book.proofs.Book.combine.Goals as goal
 
 pub returns-in_err-legs : goal.returns-in_err-legs
@@ -29,24 +30,10 @@ returns-in_err-legs g c =
 pub lock-requires : goal.lock-requires
 lock-requires g c =
     let m : Meaning = meaning g.S.LegScale.leg_of g.S.CombinationScale.pair_of c.args.scale.now in
-    let b = c.args.self.now.tables in
-    let a = c.args.account in
-    let first = c.args.first in
-    let second = c.args.second in
-    let lots = c.args.lots in
-    let k = c.requires.its_scale in
     let legs = c.in_ok-legs.legs in
-    let named = c.in_ok-legs.ensures.named in
-    let rows = c.in_ok-legs.ensures.rows in
-    let account = c.in_ok-legs.ensures.account in
-    let lots_are = c.in_ok-legs.ensures.lots in
-    let t = c.enter_combination.new.self.tables in
-    let entered = c.in_ok-answer.ensures.1.1.1.0 in
-    let few = locked_few m b k.0 k.1 a account.0 account.1 first legs.pair.first named.first in
-    let before : FewLocked (position_of b a first) 11000 = record { bought = omega (arith, few.bought); written = omega (arith, few.written) } in
-    let here : FewLocked (get_or t.positions legs.first none) 11000 =
-    subst (λ (z : Tables). FewLocked (get_or z.positions legs.first none) 11000) (sym entered) (subst (λ r. FewLocked (get_or b.positions r none) 11000) (sym rows.0) before) in
-    few_on c.first_side.result here
+    let h = c.in_ok-legs.ensures in
+    let same = ap (λ (t : Tables). t.positions) c.in_ok-answer.ensures.1.1.1.0 in
+    few_on c.first_side.result (lockable m c.args.self.now.tables c.requires.its_scale c.args.account c.args.first h.account.0 h.account.1 legs.pair.first h.named.first c.enter_combination.new.self.tables same legs.first h.rows.0)
 
 pub lock-requires-2 : goal.lock-requires-2
 lock-requires-2 g c =
