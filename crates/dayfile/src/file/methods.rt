@@ -60,7 +60,9 @@ impl<'a> DayFile<'a> {
         if k >= self.call_count() {
             return None;
         }
-        let (record, _) = self.calls[CALL * k..].split_first_chunk()?;
+        let Some((record, _)) = self.calls[CALL * k..].split_first_chunk() else {
+            unreachable!()
+        };
         Some(parse_call(record))
     }
 

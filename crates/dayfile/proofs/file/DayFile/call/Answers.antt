@@ -9,4 +9,4 @@ returns-clause-own c =
     let calls = c.args.self.now.calls.now in
     let place = 24 * c.args.k in
     let whole = take-take 24 (length calls - place) (drop place calls) (omega arith) in
-    own_there c.args.self.now c.args.k c.call.result (c.call.ensures ∙ ap call_in (c.in_ok-record.ensures.cases.0 ∙ whole))
+    own_there c.args.self.now c.args.k c.call.result (c.call.ensures ∙ ap call_in (c.in-Some.ensures.cases.0 ∙ whole))
