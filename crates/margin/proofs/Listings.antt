@@ -1,5 +1,5 @@
 -- A listing that grows at its end.
-use Rattle.std.proofs.Common.{◌≡◌, ℕ, zero, suc, ⊎_elim, Less, Equal, Greater, ◌+◌, ◌-◌, ◌<◌, ◌≤◌, true, false, not, ◌||◌, ltb, List, [], ◌∷◌, ◌++◌, map, length, get_or, take, set, Some, None, sym, refl, ap, ◌∙◌, subst, arith}
+use Rattle.std.proofs.Common.{◌≡◌, ◌≢◌, ℕ, zero, suc, ⊎_elim, Less, Equal, Greater, ◌+◌, ◌-◌, ◌<◌, ◌≤◌, true, false, not, ◌||◌, ltb, List, [], ◌∷◌, ◌++◌, map, length, get_or, take, set, Some, None, sym, refl, ap, ◌∙◌, subst, arith}
 use Rattle.std.proofs.lemmas.List.{append_assoc, append-nil, length-take-le, take_more, take_more_set, map_push}
 use Rattle.std.proofs.lemmas.Bool.{and_parts, and_from, not_from_false, le-ltb, lt-ltb, eq-eqb, ne_eqb, cond-true, cond-false, ltb-true, cases_lt}
 use Rattle.std.specs.List.{list_any, HoldsAt}
@@ -10,6 +10,7 @@ use Rattle.std.proofs.lemmas.Bool.Decides.{nat_tests}
 use Rattle.margin.specs.declared.contract.Contract.{Contract}
 use Rattle.margin.specs.declared.listing.Listing.{Listing}
 use Rattle.margin.specs.ByCode.{by_code, index}
+use Rattle.margin.specs.Listing.{BelowUpTo, FirstFrom}
 use Rattle.margin.specs.Terms.{Terms, terms_of}
 use Rattle.margin.specs.Listed.{last_code, above, rising_from, clashes, clashes_any, agreeing_after}
 
@@ -107,6 +108,11 @@ none_is : (cs : List Contract) (code : ℕ) → ((j : ℕ) (d : Contract) → j 
 none_is [] code other = refl
 none_is (c ∷ cs) code other = cond-false _ _ _ (ne_eqb c.code code (other 0 c (omega arith))) ∙ none_is cs code (λ j d lt. other (suc j) d (omega arith))
 
+same_there : (cs : List Contract) (i : ℕ) (d e : Contract) → i < length cs → get_or cs i d ≡ get_or cs i e
+same_there [] i d e within = absurd (omega arith)
+same_there (c ∷ cs) zero d e within = refl
+same_there (c ∷ cs) (suc i) d e within = same_there cs i d e (omega arith)
+
 -- what a binary search for a code finds among contracts whose codes rise
 module _ (cs : List Contract) (rising : rising_from 0 (map terms_of cs) ≡ true) (code : ℕ) where
   comparisons_rise : IsNonDecreasingBy (λ (c : Contract). ordering_index (nat_cmp c.code code)) cs
@@ -125,3 +131,24 @@ module _ (cs : List Contract) (rising : rising_from 0 (map terms_of cs) ≡ true
       (λ (lt : j < i). let less : (get_or cs j d).code < code = ranked _ code _ (sym ((parted comparisons_rise).0 j d (omega arith) lt)) in omega arith)
       (λ (le : i ≤ j). let more : code < (get_or cs j d).code = ranked _ code _ (sym ((parted comparisons_rise).1 j d le within)) in omega arith)
       (cases_lt j i))
+
+  -- what the first contract whose code is not below tells of the code
+  pub first_found : (i : ℕ) (d : Contract) → FirstFrom cs code i → (get_or cs i d).code ≡ code → (by_code cs code ≡ Some (get_or cs i d)) × (index cs code ≡ i)
+  first_found i d from is = first_is cs code i d from.0 is (λ j lt same. omega (arith, from.2 j d lt))
+
+  pub first_passed : (i : ℕ) (d : Contract) → FirstFrom cs code i → (get_or cs i d).code ≢ code → by_code cs code ≡ None
+  first_passed i d from other =
+      let over : code < (get_or cs i d).code = grind (arith, from.1 d, other) in
+      none_is cs code (λ j e within same. ⊎_elim
+      (λ (lt : j < i). omega (arith, from.2 j e lt))
+      (λ (le : i ≤ j). ⊎_elim
+      (λ (lt : i < j). omega (arith, codes_rise 0 cs rising i j e lt within, from.1 e))
+      (λ (ge : j ≤ i).
+      let one : j ≡ i = omega arith in
+      let there : (get_or cs j e).code ≡ (get_or cs i d).code = ap (λ k. (get_or cs k e).code) one ∙ ap (λ (x : Contract). x.code) (same_there cs i e d from.0) in
+      omega (arith, there, over))
+      (cases_lt i j))
+      (cases_lt j i))
+
+  pub all_below : BelowUpTo cs code (length cs) → by_code cs code ≡ None
+  all_below below = none_is cs code (λ j d within same. omega (arith, below j d within))

@@ -1,5 +1,5 @@
 -- The contracts of a listing, and how one joins it. Assumes nothing.
-use Rattle.std.specs.Prelude.{◌≡◌, ℕ, ◌<◌, true, false, List, [], ◌∷◌, ◌++◌, map, length, take, Some, None, Ok, Err, Option, Result}
+use Rattle.std.specs.Prelude.{◌≡◌, ℕ, ◌<◌, ◌≤◌, true, false, List, [], ◌∷◌, ◌++◌, map, length, get_or, take, Some, None, Ok, Err, Option, Result}
 use Rattle.margin.specs.declared.contract.Contract.{Contract}
 use Rattle.margin.specs.declared.listing.Listed.{Listed}
 use Rattle.margin.specs.declared.listing.Listing.{Listing}
@@ -27,3 +27,11 @@ Joins l c (Ok _) after =
 abbrev pub Finds : List Contract → ℕ → Option Listed → Type 0
 Finds cs code (Some found) = (by_code cs code ≡ Some found.contract) × (found.place ≡ index cs code) × (found.place < length cs)
 Finds cs code None = by_code cs code ≡ None
+
+-- each of the first n contracts has a code below
+abbrev pub BelowUpTo : List Contract → ℕ → ℕ → Type 0
+BelowUpTo cs code n = (k : ℕ) (d : Contract) → k < n → (get_or cs k d).code < code
+
+-- the first contract whose code is not below is at the place
+abbrev pub FirstFrom : List Contract → ℕ → ℕ → Type 0
+FirstFrom cs code i = (i < length cs) × ((d : Contract) → code ≤ (get_or cs i d).code) × BelowUpTo cs code i

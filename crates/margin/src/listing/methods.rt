@@ -1,12 +1,15 @@
 // A listing is begun with one contract and grows by one at a time.
-ghost use Rattle.std.specs.Prelude.{◌≡◌, true, [], ◌∷◌};
+ghost use Rattle.std.specs.Prelude.{◌≡◌, true, [], ◌∷◌, length, MatchOption};
 ghost use Rattle.std.specs.List.{list_any};
 ghost use Rattle.margin.specs.Terms.{terms_of};
 ghost use Rattle.margin.specs.Listed.{clashes as clash_of, rising_from, agreeing_after};
-ghost use Rattle.margin.specs.Listing.{listed, listed_terms, Joins, Finds};
+ghost use Rattle.margin.specs.Listing.{listed, listed_terms, Joins, Finds, BelowUpTo, FirstFrom};
 
 use super::{Listed, Listing, ListingFault, MOST_CONTRACTS};
 use crate::contract::Contract;
+
+// The first codes are looked through in order, which is quicker than to halve the listing; those behind them are found by halving it.
+const NEAR: usize = 16;
 
 // Whether two contracts have one underlying, and another kind or close of it.
 fn clash(earlier: &Contract, later: &Contract) -> bool
@@ -21,6 +24,13 @@ fn clashing(contracts: &[Contract], later: &Contract) -> bool
     ensures { result ≡ list_any (λ e. clash_of (terms_of e) (terms_of later.now)) contracts.now }
 {
     contracts.iter().any(|earlier| clash(earlier, later))
+}
+
+// The place of the first contract whose code is not below one.
+fn first_from(contracts: &[Contract], code: u32) -> Option<usize>
+    ensures { MatchOption result (BelowUpTo contracts.now code (length contracts.now)) (FirstFrom contracts.now code) }
+{
+    contracts.iter().position(|contract| contract.code >= code)
 }
 
 impl Listing {
@@ -49,6 +59,14 @@ impl Listing {
         ensures { Finds (listed self.now) code result }
     {
         let contracts = self.contracts();
+        if contracts.len() <= NEAR || code < contracts[NEAR].code {
+            let place = first_from(contracts, code)?;
+            let contract = contracts[place];
+            if contract.code != code {
+                return None;
+            }
+            return Some(Listed { place, contract });
+        }
         match contracts.binary_search_by_key(&code, |contract| contract.code) {
             Ok(place) => Some(Listed {
                 place,
