@@ -1,9 +1,9 @@
 // Reads a day file from standard input, and prints its report.
 #![tactic(auto)]
 
-use replay::play::report_text;
+use replay::play::write_report;
 use std::io;
-use std::io::Read;
+use std::io::{BufWriter, Read, Write, writer};
 
 // One byte more than a day file may have, so that a file that is too long is known as such.
 const ENOUGH: u64 = 60_001;
@@ -15,6 +15,7 @@ fn main(rt: HostRuntime) -> io::Result<()> {
 fn play(rt: &HostRuntime) -> io::Result<()> {
     let mut bytes = Vec::new(rt.alloc());
     rt.stdin().take(ENOUGH).read_to_end(&mut bytes)?;
-    let text = report_text(rt.alloc(), bytes.as_slice())?;
-    rt.write_all(text.as_slice())
+    let mut out = BufWriter::new(rt.alloc(), writer(rt))?;
+    write_report(&mut out, bytes.as_slice())?;
+    out.flush()
 }

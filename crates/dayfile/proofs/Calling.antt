@@ -1,44 +1,91 @@
--- The call at a place of the calls section.
-use Rattle.std.proofs.Common.{◌≡◌, ℕ, ◌+◌, ◌*◌, ◌<◌, ◌≤◌, List, length, take, drop, Some, ap, ◌∙◌, arith, length-drop}
-use Rattle.std.proofs.lemmas.List.{drop-drop}
+-- The call at a place of the calls section, and the calls from there on.
+use Rattle.std.proofs.Common.{◌≡◌, ℕ, ◌+◌, ◌-◌, ◌*◌, ◌<◌, ◌≤◌, min, Bool, true, false, ◌&&◌, ltb, leb, List, length, take, drop, Some, None, sym, refl, ap, ◌∙◌, arith, length-drop, length-take}
+use Rattle.std.proofs.lemmas.Bool.{and_from, cond-true, cond-false, le-leb, le-ltb, lt-leb, lt-ltb}
+use Rattle.std.proofs.lemmas.List.{drop-drop, drop_min, take_all, take_min}
 use Rattle.ledger.specs.declared.call.Call.{Call}
-use Rattle.dayfile.specs.declared.fault.Section.TheVariants.{Calls}
 use Rattle.dayfile.specs.declared.file.Calls.{Calls as CallsLeft}
 use Rattle.dayfile.specs.declared.file.DayFile.{DayFile}
 use Rattle.dayfile.specs.Bytes.{part}
 use Rattle.dayfile.specs.Records.{call_in}
-use Rattle.dayfile.specs.Format.{start, extent, call_part, call_at, count_of_calls}
-use Rattle.dayfile.specs.Read.{Says, OwnCall, GivesCall}
+use Rattle.dayfile.specs.Format.{call_part, call_at, count_of_calls}
+use Rattle.dayfile.specs.Read.{Says, call_of, OwnCall, OwnCalls, GivesCall}
 use Rattle.dayfile.proofs.Files.{calls_sound}
 use Rattle.dayfile.proofs.Handed.{part_of_part}
 use Rattle.dayfile.proofs.Telling.{call_said}
 
--- the record at k in the calls of a file is its record in the file
-own_part : (d : DayFile) (bytes : List ℕ) (k : ℕ) → Says bytes d → k < count_of_calls bytes → part d.calls.now (24 * k) 24 ≡ call_part bytes k
-own_part d bytes k says less = ap (λ b. part b (24 * k) 24) says.calls ∙ part_of_part bytes (start bytes Calls) (extent bytes Calls) (24 * k) 24 (omega (arith, less))
+and_last : (a : Bool) → (a && false) ≡ false
+and_last true = refl
+and_last false = refl
 
-pub own_there : (d : DayFile) (k : ℕ) (x : Call) → x ≡ call_in (part d.calls.now (24 * k) 24) → OwnCall d k (Some x)
-own_there d k x is bytes says less = (ap Some (is ∙ ap call_in (own_part d bytes k says less)), call_said bytes k (calls_sound bytes says.sound) less)
+module _ (d : DayFile) (bytes : List ℕ) (k : ℕ) where
+  pub none_behind : d.call_count ≤ k → (None ≡ call_of d bytes k) × OwnCall d bytes k None
+  none_behind h = (
+    sym (cond-false _ _ _ (ap (λ b. b && leb (d.calls + 24 * k + 24) (length bytes)) (le-ltb k d.call_count h))),
+    λ says less. absurd (omega (arith, says.calls_counted)),
+  )
+
+  pub none_past : length bytes < d.calls + 24 * k + 24 → (None ≡ call_of d bytes k) × OwnCall d bytes k None
+  none_past h = (
+    sym (cond-false _ _ _ (ap (λ b. ltb k d.call_count && b) (lt-leb (d.calls + 24 * k + 24) (length bytes) h) ∙ and_last (ltb k d.call_count))),
+    λ says less. absurd (omega (arith, says.calls_start, (calls_sound bytes says.sound).0)),
+  )
+
+  pub one_there : k < d.call_count → d.calls + 24 * k + 24 ≤ length bytes → (x : Call) → x ≡ call_in (part bytes (d.calls + 24 * k) 24) → (Some x ≡ call_of d bytes k) × OwnCall d bytes k (Some x)
+  one_there low high x is = (
+    ap Some is ∙ sym (cond-true _ _ _ (and_from _ _ (lt-ltb k d.call_count low) (le-leb (d.calls + 24 * k + 24) (length bytes) high))),
+    λ says less. (ap Some (is ∙ ap (λ p. call_in (part bytes (p + 24 * k) 24)) says.calls_start), call_said bytes k (calls_sound bytes says.sound).1 less),
+  )
+
+-- the records of a file's calls, as far as the bytes reach
+abbrev pub calls_part : DayFile → List ℕ → List ℕ
+calls_part d bytes = part bytes d.calls (24 * d.call_count)
+
+module _ (d : DayFile) (bytes : List ℕ) (says : Says bytes d) where
+  -- they are all there
+  all_there : length (calls_part d bytes) ≡ 24 * d.call_count
+  all_there = omega (arith, length-take (24 * d.call_count) (drop d.calls bytes), length-drop d.calls bytes, says.calls_start, says.calls_counted, (calls_sound bytes says.sound).0)
+
+  -- and that at k is the file's
+  own_part : (k : ℕ) → k < count_of_calls bytes → part (calls_part d bytes) (24 * k) 24 ≡ call_part bytes k
+  own_part k less = part_of_part bytes d.calls (24 * d.call_count) (24 * k) 24 (omega (arith, less, says.calls_counted)) ∙ ap (λ p. part bytes (p + 24 * k) 24) says.calls_start
+
+-- what two cuts, each as far as there are bytes, leave of them
+pub reach : (bytes : List ℕ) (a n s t : ℕ) → s ≡ min a (length bytes) → t ≡ min n (length (take (length bytes - s) (drop s bytes))) → take t (take (length bytes - s) (drop s bytes)) ≡ part bytes a n
+reach bytes a n s t low high =
+    ap (λ i. take i (take (length bytes - s) (drop s bytes))) high ∙ take_min n _ ∙ ap (take n) (take_all (length bytes - s) (drop s bytes) (omega (arith, length-drop s bytes)) ∙ ap (λ i. drop i bytes) low ∙ drop_min a bytes)
+
+pub own_calls : (d : DayFile) (bytes calls : List ℕ) → calls ≡ calls_part d bytes → OwnCalls d bytes calls
+own_calls d bytes calls is says = (
+  omega (arith, ap length is, all_there d bytes says, says.calls_counted),
+  λ k less. (ap (λ b. call_in (part b (24 * k) 24)) is ∙ ap call_in (own_part d bytes says k less), call_said bytes k (calls_sound bytes says.sound).1 less),
+)
 
 -- those left behind the first k
-pub record CallsAt (d : DayFile) (k : ℕ) (s : CallsLeft) : Type 0 where
-  pub rest_is : s.rest.now ≡ drop (24 * k) d.calls.now
-  pub within : 24 * k ≤ length d.calls.now
+pub record CallsAt (d : DayFile) (bytes : List ℕ) (k : ℕ) (s : CallsLeft) : Type 0 where
+  pub rest_is : s.rest.now ≡ drop (24 * k) (calls_part d bytes)
+  pub within : 24 * k ≤ length (calls_part d bytes)
 
-module _ (d : DayFile) (k : ℕ) (s t : CallsLeft) (at : CallsAt d k s) where
-  left_long : length s.rest.now + 24 * k ≡ length d.calls.now
-  left_long = omega (arith, ap length at.rest_is, length-drop (24 * k) d.calls.now, at.within)
+pub calls_begin : (d : DayFile) (bytes : List ℕ) (s : CallsLeft) → s.rest.now ≡ calls_part d bytes → CallsAt d bytes 0 s
+calls_begin d bytes s is = record { rest_is = is; within = omega arith }
 
-  pub calls_moved : (c : Call) → GivesCall s (Some c) t → CallsAt d (k + 1) t
+module _ (d : DayFile) (bytes : List ℕ) (k : ℕ) (s t : CallsLeft) (at : CallsAt d bytes k s) where
+  left_long : length s.rest.now + 24 * k ≡ length (calls_part d bytes)
+  left_long = omega (arith, ap length at.rest_is, length-drop (24 * k) (calls_part d bytes), at.within)
+
+  pub calls_moved : (c : Call) → GivesCall s (Some c) t → CallsAt d bytes (k + 1) t
   calls_moved c gives = record {
-    rest_is = gives.2 ∙ ap (drop 24) at.rest_is ∙ drop-drop 24 (24 * k) d.calls.now ∙ ap (λ i. drop i d.calls.now) (let more : 24 * k + 24 ≡ 24 * (k + 1) = omega arith in more);
+    rest_is = gives.2 ∙ ap (drop 24) at.rest_is ∙ drop-drop 24 (24 * k) (calls_part d bytes) ∙ ap (λ i. drop i (calls_part d bytes)) (let more : 24 * k + 24 ≡ 24 * (k + 1) = omega arith in more);
     within = omega (arith, left_long, gives.0);
   }
 
-  pub call_is : (bytes : List ℕ) → Says bytes d → (c : Call) → GivesCall s (Some c) t → c ≡ call_at bytes k
-  call_is bytes says c gives =
-      let less : k < count_of_calls bytes = omega (arith, says.calls_counted, left_long, gives.0) in
-      gives.1 ∙ ap (λ b. call_in (take 24 b)) at.rest_is ∙ ap call_in (own_part d bytes k says less)
+  pub call_is : Says bytes d → (c : Call) → GivesCall s (Some c) t → c ≡ call_at bytes k
+  call_is says c gives =
+      let less : k < count_of_calls bytes = omega (arith, says.calls_counted, all_there d bytes says, left_long, gives.0) in
+      gives.1 ∙ ap (λ b. call_in (take 24 b)) at.rest_is ∙ ap call_in (own_part d bytes says k less)
 
-  pub calls_ended : (bytes : List ℕ) → Says bytes d → length s.rest.now < 24 → k ≡ count_of_calls bytes
-  calls_ended bytes says short = omega (arith, says.calls_counted, left_long, short)
+  pub calls_ended : Says bytes d → length s.rest.now < 24 → k ≡ count_of_calls bytes
+  calls_ended says short = omega (arith, says.calls_counted, all_there d bytes says, left_long, short)
+
+  -- there are no more of them than a file can hold
+  pub calls_few : 24 * k ≤ 60000
+  calls_few = omega (arith, at.within, length-take (24 * d.call_count) (drop d.calls bytes), d.calls_inside)

@@ -1,17 +1,18 @@
 -- The first fault of a file, part by part.
-use Rattle.std.proofs.Common.{◌≡◌, ℕ, ◌≤◌, List, length, Some, None, Option, sym, ap, ◌∙◌}
-use Rattle.std.proofs.lemmas.Bool.{cond-false, or_from, le-ltb}
+use Rattle.std.proofs.Common.{◌≡◌, ℕ, ◌+◌, ◌*◌, ◌≤◌, Bool, true, false, ◌||◌, ltb, List, length, Some, None, Option, sym, refl, ap, ◌∙◌, arith}
+use Rattle.std.proofs.lemmas.Option.{none-some}
+use Rattle.std.proofs.lemmas.Bool.{cond-false, or_from, or_parts, le-ltb, ltb-false}
 use Rattle.dayfile.specs.declared.fault.Fault.{Fault}
-use Rattle.dayfile.specs.declared.fault.Section.TheVariants.{Settings}
+use Rattle.dayfile.specs.declared.fault.Section.TheVariants.{Settings, Contracts, Calls}
 use Rattle.dayfile.specs.declared.record.Span.{Span}
 use Rattle.ledger.specs.declared.settings.Settings.{Settings as DaySettings}
 use Rattle.dayfile.specs.Bytes.{part}
-use Rattle.dayfile.specs.Faults.{first, section_number}
+use Rattle.dayfile.specs.Faults.{fault, first, section_number}
 use Rattle.dayfile.specs.Fields.{fields_fault, values}
 use Rattle.dayfile.specs.Layout.{settings_fields}
 use Rattle.dayfile.specs.Records.{settings_numbers}
 use Rattle.dayfile.specs.Located.{SpanOf}
-use Rattle.dayfile.specs.Format.{start, settings_part, day_of, size_fault, sections_fault, records_fault, settings_fault, count_of_contracts, contract_fault, count_of_calls, call_fault, first_below, file_fault}
+use Rattle.dayfile.specs.Format.{start, end_of, faulty, pair_fault, settings_part, day_of, size_fault, sections_fault, records_fault, settings_fault, count_of_contracts, contract_fault, count_of_calls, call_fault, first_below, file_fault}
 use Rattle.dayfile.proofs.Checking.{first_none}
 
 past : (bytes : List ℕ) (x : Option Fault) → size_fault bytes ≡ None → sections_fault bytes ≡ None → records_fault bytes ≡ x → file_fault bytes ≡ x
@@ -36,14 +37,23 @@ module _ (bytes : List ℕ) (low : 24 ≤ length bytes) (high : length bytes ≤
   pub at_calls : (o : Option Fault) → settings_fault bytes ≡ None → first_below (count_of_contracts bytes) (contract_fault bytes) ≡ None → first_below (count_of_calls bytes) (call_fault bytes) ≡ o → file_fault bytes ≡ o
   at_calls o s c h = behind_settings o s (ap (λ y. first y (first_below (count_of_calls bytes) (call_fault bytes))) c ∙ h)
 
--- in a sound file each call is sound
-pub calls_sound : (bytes : List ℕ) → file_fault bytes ≡ None → first_below (count_of_calls bytes) (call_fault bytes) ≡ None
+no_fault : (bad : Bool) (n s k p : ℕ) → faulty bad n s k p ≡ None → bad ≡ false
+no_fault true n s k p e = absurd (none-some (fault n s k p) (sym e))
+no_fault false n s k p e = refl
+
+-- in a sound file the calls lie within it, and each is sound
+pub calls_sound : (bytes : List ℕ) → file_fault bytes ≡ None → (start bytes Calls + 24 * count_of_calls bytes ≤ length bytes) × (first_below (count_of_calls bytes) (call_fault bytes) ≡ None)
 calls_sound bytes e =
     let q = first_none (size_fault bytes) (first (sections_fault bytes) (records_fault bytes)) e in
     let r = first_none (sections_fault bytes) (records_fault bytes) q.1 in
+    let a = first_none (pair_fault bytes Settings 0) _ r.0 in
+    let b = first_none (pair_fault bytes Contracts (end_of bytes Settings)) _ a.1 in
+    let p = first_none (pair_fault bytes Calls (end_of bytes Contracts)) _ b.1 in
+    let clear = no_fault (ltb (start bytes Calls) 24 || (ltb (start bytes Calls) (end_of bytes Contracts) || ltb (length bytes) (end_of bytes Calls))) 2 3 0 16 p.0 in
+    let within = (or_parts (ltb (start bytes Calls) (end_of bytes Contracts)) (ltb (length bytes) (end_of bytes Calls)) (or_parts (ltb (start bytes Calls) 24) _ clear).1).1 in
     let calls : Option Fault = first_below (count_of_calls bytes) (call_fault bytes) in
     let s = first_none (settings_fault bytes) (first (first_below (count_of_contracts bytes) (contract_fault bytes)) calls) r.1 in
-    (first_none (first_below (count_of_contracts bytes) (contract_fault bytes)) calls s.1).1
+    (omega (arith, ltb-false _ _ within), (first_none (first_below (count_of_contracts bytes) (contract_fault bytes)) calls s.1).1)
 
 -- the settings of the file
 module _ (bytes : List ℕ) (span : Span) (of : SpanOf bytes Settings span) (whole : length span.bytes.now ≡ 20) where

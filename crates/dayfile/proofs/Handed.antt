@@ -1,14 +1,11 @@
 -- The records that a reader hands out, one after another.
-use Rattle.std.proofs.Common.{◌≡◌, ℕ, ◌+◌, ◌-◌, ◌*◌, ◌/◌, ◌<◌, ◌≤◌, List, length, take, drop, sym, ap, ◌∙◌, subst, mul-add, arith, length-drop}
+use Rattle.std.proofs.Common.{◌≡◌, ℕ, ◌+◌, ◌-◌, ◌*◌, ◌≤◌, List, length, take, drop, sym, ap, ◌∙◌, mul-add, arith, length-drop}
 use Rattle.std.proofs.lemmas.List.{drop-drop, drop-take, take-take, take_all}
 use Rattle.dayfile.specs.declared.fault.Section.{Section}
 use Rattle.dayfile.specs.declared.record.Record.{Record}
 use Rattle.dayfile.specs.declared.record.Reader.{Reader}
 use Rattle.dayfile.specs.declared.record.Span.{Span}
 use Rattle.dayfile.specs.Bytes.{part}
-use Rattle.dayfile.specs.Fields.{Kept}
-use Rattle.dayfile.specs.Layout.{call_number_fields}
-use Rattle.dayfile.specs.Numbered.{Numbered}
 use Rattle.dayfile.specs.Format.{start, extent}
 use Rattle.dayfile.specs.Located.{SpanOf}
 use Rattle.dayfile.specs.Reading.{Begins, Next}
@@ -92,11 +89,3 @@ only F {w = w} {span = span} {r = r} {found = found} whole b n =
     let first : found.ordinal ≡ 1 = omega (arith, n.ordinal, b.passed) in
     let place : found.place ≡ span.place = n.place ∙ ap (λ (s : Span). s.place) b.rest in
     cc
-
--- behind the first call the others have their numbers too
-pub numbered_rest : (calls : List ℕ) → 24 ≤ length calls → Numbered calls → Numbered (drop 24 calls)
-numbered_rest calls long numbered k less =
-    let next : 24 + 24 * k ≡ 24 * (k + 1) = omega arith in
-    let below : k + 1 < length calls / 24 = omega (arith, less, length-drop 24 calls) in
-    let same : part calls (24 * (k + 1)) 24 ≡ part (drop 24 calls) (24 * k) 24 = ap (λ i. part calls i 24) (sym next) ∙ ap (take 24) (sym (drop-drop (24 * k) 24 calls)) in
-    subst (λ b. Kept b call_number_fields) same (numbered (k + 1) below)

@@ -1,5 +1,5 @@
 -- What reading a day file answers. Assumes nothing.
-use Rattle.std.specs.Prelude.{◌≡◌, ℕ, ◌*◌, ◌/◌, ◌<◌, ◌≤◌, cond, List, length, take, drop, Some, None, Ok, Err, Option, Result, nat_lt}
+use Rattle.std.specs.Prelude.{◌≡◌, ℕ, ◌+◌, ◌*◌, ◌<◌, ◌≤◌, cond, ◌&&◌, List, length, take, drop, Some, None, Ok, Err, Option, Result, nat_le, nat_lt}
 use Rattle.margin.specs.Listing.{listed_terms}
 use Rattle.ledger.specs.declared.call.Call.{Call}
 use Rattle.dayfile.specs.declared.fault.FileFault.{FileFault}
@@ -11,29 +11,34 @@ use Rattle.dayfile.specs.Faults.{file_told}
 use Rattle.dayfile.specs.Fields.{values}
 use Rattle.dayfile.specs.Layout.{settings_fields, call_fields, call_column}
 use Rattle.dayfile.specs.Records.{settings_numbers, call_in, call_numbers}
-use Rattle.dayfile.specs.Format.{section_part, settings_part, terms, count_of_contracts, count_of_calls, call_part, call_at, file_fault}
+use Rattle.dayfile.specs.Format.{start, settings_part, terms, count_of_contracts, count_of_calls, call_part, call_at, file_fault}
 
 -- The bytes have no fault, and this is what they say.
 pub record Says (bytes : List ℕ) (d : DayFile) : Type 0 where
   pub sound : file_fault bytes ≡ None
   pub settings : settings_numbers d.settings ≡ values (settings_part bytes) settings_fields
   pub contracts : listed_terms d.listing ≡ terms bytes (count_of_contracts bytes)
-  pub calls : d.calls.now ≡ section_part bytes Calls
-  pub calls_counted : length d.calls.now / 24 ≡ count_of_calls bytes
+  pub calls_start : d.calls ≡ start bytes Calls
+  pub calls_counted : d.call_count ≡ count_of_calls bytes
 
 -- what the bytes say, or their fault
 abbrev pub ReadAs : List ℕ → Result DayFile FileFault → Type 0
 ReadAs bytes (Ok d) = Says bytes d
 ReadAs bytes (Err e) = file_fault bytes ≡ Some (file_told e)
 
--- the call at k, counted from 0
-abbrev pub call_of : DayFile → ℕ → Option Call
-call_of d k = cond (nat_lt k (length d.calls.now / 24)) (Some (call_in (part d.calls.now (24 * k) 24))) None
+-- the call at k, counted from 0, in bytes that reach as far
+abbrev pub call_of : DayFile → List ℕ → ℕ → Option Call
+call_of d bytes k = cond (nat_lt k d.call_count && nat_le (d.calls + 24 * k + 24) (length bytes)) (Some (call_in (part bytes (d.calls + 24 * k) 24))) None
 
 -- of the bytes that say it, it is their call at k, and its record has these numbers and no others
-abbrev pub OwnCall : DayFile → ℕ → Option Call → Type 0
-OwnCall d k r = (bytes : List ℕ) →
+abbrev pub OwnCall : DayFile → List ℕ → ℕ → Option Call → Type 0
+OwnCall d bytes k r =
     Says bytes d → k < count_of_calls bytes → (r ≡ Some (call_at bytes k)) × (call_numbers (call_at bytes k) ≡ values (call_part bytes k) (call_fields (value (call_part bytes k) call_column)))
+
+-- of the bytes that say it, the records of its calls are just theirs in order: that at k holds their call at k, with these numbers and no others
+abbrev pub OwnCalls : DayFile → List ℕ → List ℕ → Type 0
+OwnCalls d bytes calls =
+    Says bytes d → (length calls ≡ 24 * count_of_calls bytes) × ((k : ℕ) → k < count_of_calls bytes → (call_in (part calls (24 * k) 24) ≡ call_at bytes k) × (call_numbers (call_at bytes k) ≡ values (call_part bytes k) (call_fields (value (call_part bytes k) call_column))))
 
 -- the next of the calls that are left, or none where they are at an end
 abbrev pub GivesCall : CallsLeft → Option Call → CallsLeft → Type 0

@@ -290,16 +290,18 @@ mod tests {
         assert_eq!(rt; file.call_count(), 11);
         assert!(rt;
             matches!(
-                file.call(10),
+                file.call(&bytes, 10),
                 Some(Call::Release {
                     combination: 77,
                     lots: 5
                 })
             )
         );
-        assert!(rt; matches!(file.call(0), Some(Call::Deposit { amount: 0 })));
-        assert!(rt; file.call(11).is_none());
-        assert_eq!(rt; file.calls().count(), 11);
+        assert!(rt; matches!(file.call(&bytes, 0), Some(Call::Deposit { amount: 0 })));
+        assert!(rt; file.call(&bytes, 11).is_none());
+        assert!(rt; file.call(&[], 0).is_none());
+        assert_eq!(rt; file.calls(&bytes).count(), 11);
+        assert_eq!(rt; file.calls(&[]).count(), 0);
         Ok(())
     }
 }

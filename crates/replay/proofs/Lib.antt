@@ -1,2 +1,3 @@
 -- The lemmas behind the report.
 mod Telling
+mod Writing

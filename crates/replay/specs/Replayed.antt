@@ -1,5 +1,6 @@
 -- What a report says of the day file that it was made from. Assumes nothing.
-use Rattle.std.specs.Prelude.{◌≡◌, ℕ, zero, suc, ◌+◌, List, [], ◌∷◌, ◌++◌, map, length, Some, None, Ok, Err, vec_items, Result}
+use Rattle.std.specs.Prelude.{◌≡◌, ℕ, zero, suc, ◌+◌, List, [], ◌∷◌, ◌++◌, map, length, Some, None, Ok, Err, vec_items, Option, Result}
+use Rattle.std.specs.Io.KnownBytes.{Appends}
 use Rattle.margin.specs.declared.contract.Contract.{Contract}
 use Rattle.margin.specs.Meaning.{Meaning, standard_meaning, listed_meaning, raised_meaning}
 use Rattle.margin.specs.Terms.{terms_of}
@@ -72,9 +73,9 @@ pub record DayReport (m : Meaning) (bytes : List ℕ) (s : Settings) (cs : List 
   pub calls_are : map place_and_call (vec_items report.calls) ≡ numbered_calls bytes (count_of_calls bytes)
   pub told : Told m cs s (vec_items report.calls) report.end
 
--- the report of a file, as of any bytes that say it
-abbrev pub FileReport : Meaning → DayFile → Report → Type 0
-FileReport m d report = (bytes : List ℕ) → Says bytes d → DayReport m bytes d.settings (listed d.listing) report
+-- the report of a file, where the bytes are such as say it
+abbrev pub FileReport : Meaning → List ℕ → DayFile → Report → Type 0
+FileReport m bytes d report = Says bytes d → DayReport m bytes d.settings (listed d.listing) report
 
 -- the report of the bytes: they have no fault, and it is the report of the settings, contracts and calls that they say, under the scale of those settings
 pub record Reported (bytes : List ℕ) (report : Report) : Type 0 where
@@ -94,3 +95,11 @@ Replayed bytes (Err OutOfMemory) = file_fault bytes ≡ None
 -- The text of a day file's report, from its bytes: the line of their fault, or the text of their report.
 abbrev pub TextOf : List ℕ → List ℕ → Type 0
 TextOf bytes text = elim (file_fault bytes) [ Some fault ↦ text ≡ line (fault_text fault) | None ↦ (report : Report) × (Reported bytes report × (text ≡ report_text report)) ]
+
+-- What was taken before is followed by the text of the bytes' report, where it is known.
+abbrev pub TextWritten : List ℕ → Option (List ℕ) → Option (List ℕ) → Type 0
+TextWritten bytes before after = (text : List ℕ) × (TextOf bytes text × Appends before after text)
+
+-- the same of the report of a file under a scale's meaning, where the bytes are such as say the file
+abbrev pub DayWritten : Meaning → List ℕ → DayFile → Option (List ℕ) → Option (List ℕ) → Type 0
+DayWritten m bytes d before after = Says bytes d → (report : Report) × (DayReport m bytes d.settings (listed d.listing) report × Appends before after (report_text report))

@@ -2,8 +2,9 @@
 ghost use Rattle.std.specs.Prelude.{◌≡◌};
 ghost use Rattle.replay.specs.declared.failure.Failure.TheVariants.{Faulty as BadFile, OutOfMemory as NoMemory};
 
+use crate::report::CallLine;
 use dayfile::fault::FileFault;
-use std::alloc::AllocError;
+use std::alloc::{AllocError, AllocFailed};
 
 #[derive(Clone, Copy)]
 pub enum Failure {
@@ -24,5 +25,13 @@ impl From<AllocError> for Failure {
 
     fn from(_error: AllocError) -> Failure {
         Failure::OutOfMemory
+    }
+}
+
+impl From<AllocFailed<CallLine>> for Failure {
+    ghost from_gives = { λ e r. r ≡ NoMemory };
+
+    fn from(_refused: AllocFailed<CallLine>) -> Failure {
+        Failure::from(AllocError)
     }
 }

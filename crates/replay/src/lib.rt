@@ -4,4 +4,6 @@
 pub mod failure;
 pub mod play;
 pub mod report;
+#[cfg(test)]
+mod tests;
 pub mod text;

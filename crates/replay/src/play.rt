@@ -1,11 +1,12 @@
 // Playing a day file on a book.
-ghost use Rattle.std.specs.Prelude.{IfOk};
+ghost use Rattle.std.specs.Prelude.{◌≡◌, length, IfOk, OnOk};
+ghost use Rattle.margin.specs.Listing.{listed};
 ghost use Rattle.margin.specs.Meaning.{meaning, raised_meaning};
 ghost use Rattle.ledger.specs.Runs.{Kept};
 ghost use Rattle.ledger.specs.Keeps.{KeptBy};
 ghost use Rattle.book.specs.Book.{tables_of};
 ghost use Rattle.replay.specs.Lines.{LineOf, answer_of};
-ghost use Rattle.replay.specs.Replayed.{FileReport, Replayed, TextOf};
+ghost use Rattle.replay.specs.Replayed.{DayWritten, FileReport, Replayed, TextOf, TextWritten};
 
 use crate::failure::Failure;
 use crate::report::{CallLine, EndLine, OpeningLine, Report};
@@ -14,12 +15,38 @@ use book::Book;
 use dayfile::fault::Fault;
 use dayfile::file::DayFile;
 use ledger::call::Call;
-use ledger::settings::BaseScale;
+use ledger::settings::{BaseScale, Settings};
+use margin::listing::Listing;
 use margin::scale::listed::ListedScale;
 use margin::scale::raised::RaisedScale;
 use margin::scale::standard::StandardScale;
 use margin::scale::{CombinationScale, LegScale};
 use std::alloc::{AllocError, Global};
+use std::io;
+use std::io::Write;
+
+// The day, how many contracts are listed, and the opening balance.
+fn opening_line(settings: &Settings, listing: &Listing) -> OpeningLine
+    ensures { result ≡ record { day = settings.now.day; contracts = length (listed listing.now); balance = settings.now.opening } }
+{
+    OpeningLine {
+        day: settings.day,
+        contracts: listing.contracts().len(),
+        balance: settings.opening,
+    }
+}
+
+// The funds of the book.
+fn end_line(book: &Book) -> EndLine
+    ensures { result ≡ record { balance = (tables_of book.now).funds.balance; held = (tables_of book.now).funds.held; reserves = (tables_of book.now).funds.reserved; cash = (tables_of book.now).funds.cash } }
+{
+    EndLine {
+        balance: book.balance(),
+        held: book.margin_held(),
+        reserves: book.reserves(),
+        cash: book.cash_total(),
+    }
+}
 
 // Makes a call on the book, and tells its line.
 fn play_call<S: CombinationScale>(book: &mut Book, scale: &S, place: usize, call: Call) -> CallLine
@@ -37,53 +64,100 @@ fn play_call<S: CombinationScale>(book: &mut Book, scale: &S, place: usize, call
 }
 
 // Plays the calls of a file on a book opened by its settings.
-fn play<S: CombinationScale>(heap: Global, file: &DayFile, scale: &S) -> Result<Report, AllocError>
-    ensures { IfOk result (FileReport (meaning S.LegScale.leg_of S.CombinationScale.pair_of scale.now) file.now) }
+fn play<S: CombinationScale>(
+    heap: Global,
+    file: &DayFile,
+    bytes: &[u8],
+    scale: &S,
+) -> Result<Report, AllocError>
+    ensures { IfOk result (FileReport (meaning S.LegScale.leg_of S.CombinationScale.pair_of scale.now) bytes.now file.now) }
 {
     let settings = file.settings();
     let listing = file.listing();
-    let opening = OpeningLine {
-        day: settings.day,
-        contracts: listing.contracts().len(),
-        balance: settings.opening,
-    };
+    let opening = opening_line(&settings, listing);
     let mut book = Book::open(&settings, listing);
     let mut calls = Vec::new(heap);
-    for call in file.calls() {
+    for call in file.calls(bytes) {
         let place = calls.len() + 1;
         calls.push(play_call(&mut book, scale, place, call))?;
     }
-    let end = EndLine {
-        balance: book.balance(),
-        held: book.margin_held(),
-        reserves: book.reserves(),
-        cash: book.cash_total(),
-    };
     Ok(Report {
         opening,
         calls,
-        end,
+        end: end_line(&book),
     })
+}
+
+// A scale, raised twice as the settings say.
+fn raised<S: CombinationScale>(base: S, settings: &Settings) -> RaisedScale<RaisedScale<S>>
+    ensures { result ≡ record { base = record { base = base; percent = settings.now.first_raise }; percent = settings.now.second_raise } }
+{
+    let first = RaisedScale {
+        base,
+        percent: settings.first_raise,
+    };
+    RaisedScale {
+        base: first,
+        percent: settings.second_raise,
+    }
 }
 
 // Plays the file over a scale, raised twice as the settings say.
 fn play_raised<S: CombinationScale + Drop>(
     heap: Global,
     file: &DayFile,
+    bytes: &[u8],
     base: S,
 ) -> Result<Report, AllocError>
-    ensures { IfOk result (FileReport (raised_meaning file.now.settings.second_raise.value (raised_meaning file.now.settings.first_raise.value (meaning S.LegScale.leg_of S.CombinationScale.pair_of base))) file.now) }
+    ensures { IfOk result (FileReport (raised_meaning file.now.settings.second_raise.value (raised_meaning file.now.settings.first_raise.value (meaning S.LegScale.leg_of S.CombinationScale.pair_of base))) bytes.now file.now) }
+{
+    let scale = raised(base, &file.settings());
+    play(heap, file, bytes, &scale)
+}
+
+// Plays the calls of a file on a book opened by its settings, and writes each line of the report as soon as it can be told.
+fn write_day<W: Write, S: CombinationScale>(
+    out: &mut W,
+    file: &DayFile,
+    bytes: &[u8],
+    scale: &S,
+) -> io::Result<()>
+    ensures { OnOk result (DayWritten (meaning S.LegScale.leg_of S.CombinationScale.pair_of scale.now) bytes.now file.now (W.contents out.old) (W.contents out.new)) }
 {
     let settings = file.settings();
-    let first = RaisedScale {
-        base,
-        percent: settings.first_raise,
-    };
-    let second = RaisedScale {
-        base: first,
-        percent: settings.second_raise,
-    };
-    play(heap, file, &second)
+    let listing = file.listing();
+    out.writeln(opening_line(&settings, listing))?;
+    let mut book = Book::open(&settings, listing);
+    for (k, call) in file.calls(bytes).enumerate() {
+        out.writeln(play_call(&mut book, scale, k + 1, call))?;
+    }
+    out.writeln(end_line(&book))
+}
+
+// The same over a scale, raised twice as the settings say.
+fn write_raised<W: Write, S: CombinationScale + Drop>(
+    out: &mut W,
+    file: &DayFile,
+    bytes: &[u8],
+    base: S,
+) -> io::Result<()>
+    ensures { OnOk result (DayWritten (raised_meaning file.now.settings.second_raise.value (raised_meaning file.now.settings.first_raise.value (meaning S.LegScale.leg_of S.CombinationScale.pair_of base))) bytes.now file.now (W.contents out.old) (W.contents out.new)) }
+{
+    let scale = raised(base, &file.settings());
+    write_day(out, file, bytes, &scale)
+}
+
+// Writes the report of a day file line by line, or the line of its fault. It allocates nothing.
+pub fn write_report<W: Write>(out: &mut W, bytes: &[u8]) -> io::Result<()>
+    ensures { OnOk result (TextWritten bytes.now (W.contents out.old) (W.contents out.new)) }
+{
+    match DayFile::read(bytes) {
+        Ok(file) => match file.settings().scale {
+            BaseScale::Standard => write_raised(out, &file, bytes, StandardScale),
+            BaseScale::Listed => write_raised(out, &file, bytes, ListedScale),
+        },
+        Err(fault) => out.writeln(Fault::from(fault)),
+    }
 }
 
 // The report of a day file, or its fault.
@@ -93,8 +167,8 @@ pub fn replay(heap: Global, bytes: &[u8]) -> Result<Report, Failure>
     let file = DayFile::read(bytes)?;
     // A match, since the two base scales are types of their own.
     Ok(match file.settings().scale {
-        BaseScale::Standard => play_raised(heap, &file, StandardScale)?,
-        BaseScale::Listed => play_raised(heap, &file, ListedScale)?,
+        BaseScale::Standard => play_raised(heap, &file, bytes, StandardScale)?,
+        BaseScale::Listed => play_raised(heap, &file, bytes, ListedScale)?,
     })
 }
 

@@ -1,14 +1,12 @@
 // The record of a call.
-ghost use Rattle.std.specs.Prelude.{◌≡◌, ℕ, List, length, OnOk};
+ghost use Rattle.std.specs.Prelude.{◌≡◌, ℕ, List};
 ghost use Rattle.ledger.specs.Calls.{kind_number};
 ghost use Rattle.dayfile.specs.declared.fault.Section.TheVariants.{Calls as IsCalls};
 ghost use Rattle.dayfile.specs.Faults.{Passed, SectionPassed, section_number};
-ghost use Rattle.dayfile.specs.Fields.{Kept};
-ghost use Rattle.dayfile.specs.Layout.{call_number_fields, use_rule, argument_fields, names_of};
+ghost use Rattle.dayfile.specs.Layout.{use_rule, argument_fields, names_of};
 ghost use Rattle.dayfile.specs.Records.{call_in};
 ghost use Rattle.dayfile.specs.Format.{count_of_calls, call_record_fault, call_fault, first_below};
 ghost use Rattle.dayfile.specs.Located.{SpanOf};
-ghost use Rattle.dayfile.specs.Numbered.{Numbered};
 
 use super::Named;
 use crate::bytes::read;
@@ -105,8 +103,7 @@ fn arguments(named: Named) -> [Field; 7]
 }
 
 fn check(source: &Record<CALL>) -> Result<(), RecordFault>
-    ensures fault { Passed (call_record_fault source.now.bytes.now (section_number source.now.section) source.now.ordinal source.now.place) result }
-    ensures kept { OnOk result (Kept source.now.bytes.now call_number_fields) }
+    ensures { Passed (call_record_fault source.now.bytes.now (section_number source.now.section) source.now.ordinal source.now.place) result }
 {
     source.check(&[Field::within(NUMBER, 1, 11)])?;
     let bytes = source.bytes;
@@ -118,8 +115,7 @@ fn check(source: &Record<CALL>) -> Result<(), RecordFault>
 
 // Whether each record of the calls is sound.
 pub(crate) fn check_all(span: &Span) -> Result<(), SectionFault>
-    ensures fault { (bytes : List ℕ) → SpanOf bytes IsCalls span.now → SectionPassed (first_below (count_of_calls bytes) (call_fault bytes)) result }
-    ensures kept { OnOk result (Numbered span.now.bytes.now) }
+    ensures { (bytes : List ℕ) → SpanOf bytes IsCalls span.now → SectionPassed (first_below (count_of_calls bytes) (call_fault bytes)) result }
 {
     for found in span.records::<CALL>() {
         check(&found)?;
@@ -127,9 +123,8 @@ pub(crate) fn check_all(span: &Span) -> Result<(), SectionFault>
     Ok(())
 }
 
-// The call of a record that has the number of one.
+// The call of a record. In a sound file it has the number of one; in other bytes a number beyond is read as the last of them.
 pub(crate) fn call(bytes: &[u8; CALL]) -> Call
-    requires { Kept bytes.now call_number_fields }
     ensures { result ≡ call_in bytes.now }
 {
     let account = read(bytes, ACCOUNT) as u8;
@@ -138,9 +133,7 @@ pub(crate) fn call(bytes: &[u8; CALL]) -> Call
     let b = read(bytes, B) as u32;
     let lots = read(bytes, LOTS) as u32;
     let amount = read(bytes, AMOUNT);
-    let Ok(kind) = CallKind::try_from(read(bytes, NUMBER) as u8) else {
-        unreachable!()
-    };
+    let kind = CallKind::try_from(read(bytes, NUMBER) as u8).unwrap_or(CallKind::Release);
     match kind {
         CallKind::Deposit => Call::Deposit { amount },
         CallKind::Withdraw => Call::Withdraw { amount },

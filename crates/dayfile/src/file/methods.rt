@@ -1,7 +1,8 @@
 // Reading a day file, and what it says.
-ghost use Rattle.std.specs.Prelude.{◌≡◌, ◌/◌, length};
+ghost use Rattle.std.specs.Prelude.{◌≡◌, ◌*◌, length};
 ghost use Rattle.std.specs.Iterator.{at_most};
-ghost use Rattle.dayfile.specs.Read.{ReadAs, call_of, OwnCall, GivesCall};
+ghost use Rattle.dayfile.specs.Bytes.{part};
+ghost use Rattle.dayfile.specs.Read.{ReadAs, call_of, OwnCall, OwnCalls, GivesCall};
 
 use super::{Calls, DayFile};
 use crate::call::parse::{call as parse_call, check_all};
@@ -15,9 +16,9 @@ use margin::listing::Listing;
 
 const MOST: usize = 60_000;
 
-impl<'a> DayFile<'a> {
+impl DayFile {
     // Judges the bytes in the order of the format, and tells the first fault or what they say.
-    pub fn read(bytes: &'a [u8]) -> Result<DayFile<'a>, FileFault>
+    pub fn read(bytes: &[u8]) -> Result<DayFile, FileFault>
         ensures { ReadAs bytes.now result }
     {
         if bytes.len() < PAIRS || bytes.len() > MOST {
@@ -30,7 +31,8 @@ impl<'a> DayFile<'a> {
         Ok(DayFile {
             settings,
             listing,
-            calls: sections.calls.bytes,
+            calls: sections.calls.place,
+            call_count: sections.calls.bytes.len() / CALL,
         })
     }
 
@@ -47,30 +49,33 @@ impl<'a> DayFile<'a> {
     }
 
     pub fn call_count(&self) -> usize
-        ensures { result ≡ length self.now.calls.now / 24 }
+        ensures { result ≡ self.now.call_count }
     {
-        self.calls.len() / CALL
+        self.call_count
     }
 
-    // The call at `k`, counted from 0.
-    pub fn call(&self, k: usize) -> Option<Call>
-        ensures is { result ≡ call_of self.now k }
-        ensures own { OwnCall self.now k result }
+    // The call at `k`, counted from 0. `bytes` are those that the file was read from.
+    pub fn call(&self, bytes: &[u8], k: usize) -> Option<Call>
+        ensures is { result ≡ call_of self.now bytes.now k }
+        ensures own { OwnCall self.now bytes.now k result }
     {
-        if k >= self.call_count() {
+        if k >= self.call_count {
             return None;
         }
-        let Some((record, _)) = self.calls[CALL * k..].split_first_chunk() else {
-            unreachable!()
-        };
+        let place = self.calls + CALL * k;
+        let (record, _) = bytes.get(place..)?.split_first_chunk()?;
         Some(parse_call(record))
     }
 
-    // The calls, one after another.
-    pub fn calls(&self) -> Calls<'a>
-        ensures { result.rest.now ≡ self.now.calls.now }
+    // The calls, one after another, as far as the bytes reach. `bytes` are those that the file was read from.
+    pub fn calls<'a>(&self, bytes: &'a [u8]) -> Calls<'a>
+        ensures are { result.rest.now ≡ part bytes.now self.now.calls (24 * self.now.call_count) }
+        ensures own { OwnCalls self.now bytes.now result.rest.now }
     {
-        Calls { rest: self.calls }
+        let behind = &bytes[self.calls.min(bytes.len())..];
+        Calls {
+            rest: &behind[..(CALL * self.call_count).min(behind.len())],
+        }
     }
 }
 

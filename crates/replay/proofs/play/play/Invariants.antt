@@ -1,4 +1,4 @@
-use Rattle.std.proofs.Common.{◌≡◌, ℕ, List, length, map, vec_items, vec_len}
+use Rattle.std.proofs.Common.{◌≡◌, length, map, vec_items, vec_len}
 use Rattle.margin.specs.Listing.{listed}
 use Rattle.margin.specs.Meaning.{meaning}
 use Rattle.book.specs.Book.{tables_of}
@@ -12,6 +12,6 @@ abbrev pub invariant-loop-call : goal.invariant-loop-call
 invariant-loop-call g l = record {
   told : SoFar (meaning g.S.LegScale.leg_of g.S.CombinationScale.pair_of l.scale) l.file.settings (listed l.file.listing) (tables_of l.initial.book) (vec_items l.calls) (tables_of l.book);
   many : vec_len l.calls ≡ length l.yielded;
-  calls : (bytes : List ℕ) → Says bytes l.file → map place_and_call (vec_items l.calls) ≡ numbered_calls bytes (length l.yielded);
-  at : CallsAt l.file (length l.yielded) l.call-iterator;
+  calls : Says l.bytes l.file → map place_and_call (vec_items l.calls) ≡ numbered_calls l.bytes (length l.yielded);
+  at : CallsAt l.file l.bytes (length l.yielded) l.call-iterator;
 }

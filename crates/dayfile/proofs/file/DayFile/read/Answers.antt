@@ -29,7 +29,7 @@ returns-in_err-check_all c =
     let sets = c.in_ok-settings.ensures in
     let day = day_said bytes _ s.said.settings s.said.settings_whole c.in_ok-settings.settings sets.said in
     rw (p.1, p.2) (at_calls bytes (omega arith) (omega arith) s.fault _
-    (sym (settings_judged bytes _ s.said.settings s.said.settings_whole) ∙ sets.fault) (c.in_ok-listing.ensures bytes s.said.contracts day).0 (c.in_err-check_all.ensures.fault bytes s.said.calls))
+    (sym (settings_judged bytes _ s.said.settings s.said.settings_whole) ∙ sets.fault) (c.in_ok-listing.ensures bytes s.said.contracts day).0 (c.in_err-check_all.ensures bytes s.said.calls))
 
 pub returns : goal.returns
 returns c =
@@ -38,9 +38,9 @@ returns c =
     let sets = c.in_ok-settings.ensures in
     let listed = c.in_ok-listing.ensures bytes s.said.contracts (day_said bytes _ s.said.settings s.said.settings_whole c.in_ok-settings.settings sets.said) in record {
       sound = at_calls bytes (omega arith) (omega arith) s.fault None
-          (sym (settings_judged bytes _ s.said.settings s.said.settings_whole) ∙ sets.fault) listed.0 (c.in_ok-check_all.ensures.fault bytes s.said.calls);
+          (sym (settings_judged bytes _ s.said.settings s.said.settings_whole) ∙ sets.fault) listed.0 (c.in_ok-check_all.ensures bytes s.said.calls);
       settings = settings_said bytes _ s.said.settings s.said.settings_whole c.in_ok-settings.settings sets.said;
       contracts = listed.1;
-      calls = s.said.calls.bytes_are;
+      calls_start = s.said.calls.place;
       calls_counted = ap (λ n. n / 24) s.said.calls.long;
     }

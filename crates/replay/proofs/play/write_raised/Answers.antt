@@ -1,0 +1,4 @@
+use Rattle.replay.proofs.play.write_raised.Goals as goal
+
+pub returns : goal.returns
+returns g c = rw (c.raised-scale.ensures, c.settings.ensures) at c.write_day.ensures
