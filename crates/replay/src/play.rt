@@ -116,6 +116,8 @@ fn play_raised<S: CombinationScale + Drop>(
 }
 
 // Plays the calls of a file on a book opened by its settings, and writes each line of the report as soon as it can be told.
+// The loop of `play` again, which keeps its lines: this one keeps none, so that it asks for no memory. One loop for both would need a
+// trait of our own for what takes the lines.
 fn write_day<W: Write, S: CombinationScale>(
     out: &mut W,
     file: &DayFile,
