@@ -1,5 +1,7 @@
 // Playing a day file on a book.
-ghost use Rattle.std.specs.Prelude.{◌≡◌, length, IfOk, OnOk};
+ghost use Rattle.std.specs.Prelude.{◌≡◌, length, IfOk, IfSome, OnOk};
+ghost use Rattle.std.specs.Fmt.{with_newline};
+ghost use Rattle.std.specs.Io.KnownBytes.{Appends};
 ghost use Rattle.margin.specs.Listing.{listed};
 ghost use Rattle.margin.specs.Meaning.{meaning, raised_meaning};
 ghost use Rattle.ledger.specs.Runs.{Kept};
@@ -22,6 +24,7 @@ use margin::scale::raised::RaisedScale;
 use margin::scale::standard::StandardScale;
 use margin::scale::{CombinationScale, LegScale};
 use std::alloc::{AllocError, Global};
+use std::fmt::Display;
 use std::io;
 use std::io::Write;
 
@@ -115,6 +118,14 @@ fn play_raised<S: CombinationScale + Drop>(
     play(heap, file, bytes, &scale)
 }
 
+// Writes a line, and has it leave the writer.
+fn write_line<W: Write, D: Display + Drop>(out: &mut W, line: D) -> io::Result<()>
+    ensures { OnOk result (IfSome (with_newline (D.output line)) (Appends (W.contents out.old) (W.contents out.new))) }
+{
+    out.writeln(line)?;
+    out.flush()
+}
+
 // Plays the calls of a file on a book opened by its settings, and writes each line of the report as soon as it can be told.
 // The loop of `play` again, which keeps its lines: this one keeps none, so that it asks for no memory. One loop for both would need a
 // trait of our own for what takes the lines.
@@ -128,12 +139,12 @@ fn write_day<W: Write, S: CombinationScale>(
 {
     let settings = file.settings();
     let listing = file.listing();
-    out.writeln(opening_line(&settings, listing))?;
+    write_line(out, opening_line(&settings, listing))?;
     let mut book = Book::open(&settings, listing);
     for (k, call) in file.calls(bytes).enumerate() {
-        out.writeln(play_call(&mut book, scale, k + 1, call))?;
+        write_line(out, play_call(&mut book, scale, k + 1, call))?;
     }
-    out.writeln(end_line(&book))
+    write_line(out, end_line(&book))
 }
 
 // The same over a scale, raised twice as the settings say.
@@ -158,7 +169,7 @@ pub fn write_report<W: Write>(out: &mut W, bytes: &[u8]) -> io::Result<()>
             BaseScale::Standard => write_raised(out, &file, bytes, StandardScale),
             BaseScale::Listed => write_raised(out, &file, bytes, ListedScale),
         },
-        Err(fault) => out.writeln(Fault::from(fault)),
+        Err(fault) => write_line(out, Fault::from(fault)),
     }
 }
 

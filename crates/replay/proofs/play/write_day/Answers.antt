@@ -15,8 +15,8 @@ loop-k-init g c =
     let d : DayFile = c.args.file.now in
     let at = c.enumerate-k-items.ensures in
     let into = c.into_iter-k-iterator.ensures.into_iter_gives in record {
-      behind = none_written m d c.args.bytes.now c.open-book.result.tables (g.W.Write.contents c.args.out.now) (g.W.Write.contents c.writeln.new.self) (rw (c.settings-settings.ensures, c.listing-listing.ensures) at c.open-book.ensures.opened)
-          (rw c.settings-settings.ensures at (c.open-book.ensures.law m)) (rw (c.opening_line.ensures, c.settings-settings.ensures, c.listing-listing.ensures) at c.in_ok-writeln.ensures.bytes);
+      behind = none_written m d c.args.bytes.now c.open-book.result.tables (g.W.Write.contents c.args.out.now) (g.W.Write.contents c.write_line.new.out) (rw (c.settings-settings.ensures, c.listing-listing.ensures) at c.open-book.ensures.opened)
+          (rw c.settings-settings.ensures at (c.open-book.ensures.law m)) (rw (c.opening_line.ensures, c.settings-settings.ensures, c.listing-listing.ensures) at c.in_ok-write_line.ensures);
       counted = ap (λ (e : Enumerate CallsLeft). e.count) into ∙ at.count;
       at = calls_begin d c.args.bytes.now c.into_iter-k-iterator.result.iter (ap (λ (e : Enumerate CallsLeft). e.iter.rest.now) into ∙ ap (λ (s : CallsLeft). s.rest.now) at.source ∙ c.calls.ensures.are);
     }
@@ -34,7 +34,7 @@ loop-k-preserved g c =
     let steps = c.in-Some.ensures.steps in
     let more = length_push c.loop-k.yielded (c.in-Some.k, c.in-Some.call) in record {
       behind = rw more (one_written m d bytes c.open-book.result.tables (g.W.Write.contents c.args.out.now) (g.W.Write.contents c.loop-k.out) _ k _ c.play_call.result c.in-Some.call c.loop-k.book.tables c.play_call.new.book.tables
-          inv.behind c.play_call.ensures.line c.play_call.ensures.law (omega (arith, steps.1, inv.counted)) (λ says. call_is d bytes k c.loop-k.k-iterator.iter c.next.new.self.iter inv.at says c.in-Some.call steps.0) c.in_ok-writeln-2.ensures.bytes);
+          inv.behind c.play_call.ensures.line c.play_call.ensures.law (omega (arith, steps.1, inv.counted)) (λ says. call_is d bytes k c.loop-k.k-iterator.iter c.next.new.self.iter inv.at says c.in-Some.call steps.0) c.in_ok-write_line-2.ensures);
       counted = omega (arith, steps.2, inv.counted, more);
       at = rw more (calls_moved d bytes k c.loop-k.k-iterator.iter c.next.new.self.iter inv.at c.in-Some.call steps.0);
     }
@@ -47,5 +47,5 @@ returns g c =
     let k = length c.loop-k.yielded in
     let inv = c.loop-k.invariant in
     let few = calls_few d bytes k c.loop-k.k-iterator.iter c.next.new.self.iter inv.at in
-    on_ok_weaker c.writeln-2.result (λ more. all_written m d bytes c.open-book.result.tables (g.W.Write.contents c.args.out.now) (g.W.Write.contents c.loop-k.out) (g.W.Write.contents c.writeln-2.new.self) k c.loop-k.book.tables c.end_line.result
-    inv.behind (omega (arith, few)) (λ says. calls_ended d bytes k c.loop-k.k-iterator.iter c.next.new.self.iter inv.at says c.in-None.ensures.steps.0) c.end_line.ensures more) c.writeln-2.ensures.bytes
+    on_ok_weaker c.write_line-2.result (λ more. all_written m d bytes c.open-book.result.tables (g.W.Write.contents c.args.out.now) (g.W.Write.contents c.loop-k.out) (g.W.Write.contents c.write_line-2.new.out) k c.loop-k.book.tables c.end_line.result
+    inv.behind (omega (arith, few)) (λ says. calls_ended d bytes k c.loop-k.k-iterator.iter c.next.new.self.iter inv.at says c.in-None.ensures.steps.0) c.end_line.ensures more) c.write_line-2.ensures
