@@ -1,7 +1,7 @@
 -- The first fault of a file, part by part.
-use Rattle.std.proofs.Common.{◌≡◌, ℕ, ◌+◌, ◌*◌, ◌≤◌, Bool, true, false, ◌||◌, ltb, List, length, Some, None, Option, sym, refl, ap, ◌∙◌, arith}
+use Rattle.std.proofs.Common.{◌≡◌, ℕ, ◌+◌, ◌*◌, ◌%◌, ◌≤◌, Bool, true, false, ◌||◌, ltb, List, length, Some, None, Option, sym, refl, ap, ◌∙◌, arith}
 use Rattle.std.proofs.lemmas.Option.{none-some}
-use Rattle.std.proofs.lemmas.Bool.{cond-false, or_from, or_parts, le-ltb, ltb-false}
+use Rattle.std.proofs.lemmas.Bool.{cond-false, or_from, or_parts, not-false, eqb-true, le-ltb, ltb-false}
 use Rattle.dayfile.specs.declared.fault.Fault.{Fault}
 use Rattle.dayfile.specs.declared.fault.Section.TheVariants.{Settings, Contracts, Calls}
 use Rattle.dayfile.specs.declared.record.Span.{Span}
@@ -12,7 +12,7 @@ use Rattle.dayfile.specs.Fields.{fields_fault, values}
 use Rattle.dayfile.specs.Layout.{settings_fields}
 use Rattle.dayfile.specs.Records.{settings_numbers}
 use Rattle.dayfile.specs.Located.{SpanOf}
-use Rattle.dayfile.specs.Format.{start, end_of, faulty, pair_fault, settings_part, day_of, size_fault, sections_fault, records_fault, settings_fault, count_of_contracts, contract_fault, count_of_calls, call_fault, first_below, file_fault}
+use Rattle.dayfile.specs.Format.{start, extent, end_of, faulty, pair_fault, bad_length, length_fault, settings_part, day_of, size_fault, sections_fault, records_fault, settings_fault, count_of_contracts, contract_fault, count_of_calls, call_fault, first_below, file_fault}
 use Rattle.dayfile.proofs.Checking.{first_none}
 
 past : (bytes : List ℕ) (x : Option Fault) → size_fault bytes ≡ None → sections_fault bytes ≡ None → records_fault bytes ≡ x → file_fault bytes ≡ x
@@ -54,6 +54,19 @@ calls_sound bytes e =
     let calls : Option Fault = first_below (count_of_calls bytes) (call_fault bytes) in
     let s = first_none (settings_fault bytes) (first (first_below (count_of_contracts bytes) (contract_fault bytes)) calls) r.1 in
     (omega (arith, ltb-false _ _ within), (first_none (first_below (count_of_contracts bytes) (contract_fault bytes)) calls s.1).1)
+
+-- and they are whole records
+pub calls_whole : (bytes : List ℕ) → file_fault bytes ≡ None → extent bytes Calls ≡ 24 * count_of_calls bytes
+calls_whole bytes e =
+    let q = first_none (size_fault bytes) (first (sections_fault bytes) (records_fault bytes)) e in
+    let r = first_none (sections_fault bytes) (records_fault bytes) q.1 in
+    let a = first_none (pair_fault bytes Settings 0) _ r.0 in
+    let b = first_none (pair_fault bytes Contracts (end_of bytes Settings)) _ a.1 in
+    let p = first_none (pair_fault bytes Calls (end_of bytes Contracts)) _ b.1 in
+    let s = first_none (length_fault bytes Settings) _ p.1 in
+    let t = first_none (length_fault bytes Contracts) _ s.1 in
+    let clear = no_fault (bad_length Calls (extent bytes Calls)) 3 3 0 20 t.1 in
+    omega (arith, eqb-true (extent bytes Calls % 24) 0 (not-false _ clear))
 
 -- the settings of the file
 module _ (bytes : List ℕ) (span : Span) (of : SpanOf bytes Settings span) (whole : length span.bytes.now ≡ 20) where

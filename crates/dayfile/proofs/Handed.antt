@@ -1,11 +1,14 @@
 -- The records that a reader hands out, one after another.
-use Rattle.std.proofs.Common.{◌≡◌, ℕ, ◌+◌, ◌-◌, ◌*◌, ◌≤◌, List, length, take, drop, sym, ap, ◌∙◌, mul-add, arith, length-drop}
+use Rattle.std.proofs.Common.{◌≡◌, ℕ, ◌+◌, ◌-◌, ◌*◌, ◌/◌, ◌<◌, ◌≤◌, List, length, take, drop, sym, ap, ◌∙◌, subst, mul-add, arith, length-drop}
 use Rattle.std.proofs.lemmas.List.{drop-drop, drop-take, take-take, take_all}
 use Rattle.dayfile.specs.declared.fault.Section.{Section}
 use Rattle.dayfile.specs.declared.record.Record.{Record}
 use Rattle.dayfile.specs.declared.record.Reader.{Reader}
 use Rattle.dayfile.specs.declared.record.Span.{Span}
 use Rattle.dayfile.specs.Bytes.{part}
+use Rattle.dayfile.specs.Fields.{Kept}
+use Rattle.dayfile.specs.Layout.{call_number_fields}
+use Rattle.dayfile.specs.Numbered.{Numbered}
 use Rattle.dayfile.specs.Format.{start, extent}
 use Rattle.dayfile.specs.Located.{SpanOf}
 use Rattle.dayfile.specs.Reading.{Begins, Next}
@@ -89,3 +92,15 @@ only F {w = w} {span = span} {r = r} {found = found} whole b n =
     let first : found.ordinal ≡ 1 = omega (arith, n.ordinal, b.passed) in
     let place : found.place ≡ span.place = n.place ∙ ap (λ (s : Span). s.place) b.rest in
     cc
+
+-- behind the first k calls the others have their numbers too
+pub numbered_behind : (calls : List ℕ) (k : ℕ) → 24 * k ≤ length calls → Numbered calls → Numbered (drop (24 * k) calls)
+numbered_behind calls k within numbered j less =
+    let place : 24 * k + 24 * j ≡ 24 * (k + j) = omega arith in
+    let below : k + j < length calls / 24 = omega (arith, less, within, length-drop (24 * k) calls) in
+    let same : part calls (24 * (k + j)) 24 ≡ part (drop (24 * k) calls) (24 * j) 24 = ap (λ i. part calls i 24) (sym place) ∙ ap (take 24) (sym (drop-drop (24 * j) (24 * k) calls)) in
+    subst (λ b. Kept b call_number_fields) same (numbered (k + j) below)
+
+-- and so behind the first
+pub numbered_rest : (calls : List ℕ) → 24 ≤ length calls → Numbered calls → Numbered (drop 24 calls)
+numbered_rest calls long numbered = numbered_behind calls 1 long numbered

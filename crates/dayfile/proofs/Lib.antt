@@ -6,3 +6,4 @@ mod Listings
 mod Files
 mod Telling
 pub mod Calling
+pub mod Viewing

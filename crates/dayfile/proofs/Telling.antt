@@ -1,11 +1,11 @@
 -- A sound call's record says its call, and nothing else.
 use Rattle.std.proofs.Common.{◌≡◌, ℕ, zero, suc, ◌+◌, ◌<◌, ◌≤◌, List, [], ◌∷◌, None, arith}
 use Rattle.dayfile.specs.Bytes.{value}
-use Rattle.dayfile.specs.Fields.{Keeps, values}
+use Rattle.dayfile.specs.Fields.{Keeps, Kept, values}
 use Rattle.dayfile.specs.Layout.{names_of, use_rule, argument_fields, call_number_fields, call_fields, call_column}
 use Rattle.dayfile.specs.declared.field.Rule.TheVariants.{Zero}
 use Rattle.dayfile.specs.Records.{call_by, call_in, call_numbers}
-use Rattle.dayfile.specs.Format.{first_below, call_fault, call_record_fault, count_of_calls, call_part, call_at}
+use Rattle.dayfile.specs.Format.{first_below, call_fault, call_record_fault, count_of_calls, call_place, call_part, call_at}
 use Rattle.dayfile.proofs.Firsts.{each_none}
 use Rattle.dayfile.proofs.Checking.{fields_kept, first_none}
 
@@ -46,3 +46,9 @@ record_said p section ordinal place e =
 pub call_said : (bytes : List ℕ) (k : ℕ) → first_below (count_of_calls bytes) (call_fault bytes) ≡ None → k < count_of_calls bytes →
     call_numbers (call_at bytes k) ≡ values (call_part bytes k) (call_fields (value (call_part bytes k) call_column))
 call_said bytes k e h = record_said (call_part bytes k) 3 (k + 1) _ (each_none (call_fault bytes) (count_of_calls bytes) k h e)
+
+-- and has the number of a call
+pub number_kept : (bytes : List ℕ) (k : ℕ) → first_below (count_of_calls bytes) (call_fault bytes) ≡ None → k < count_of_calls bytes → Kept (call_part bytes k) call_number_fields
+number_kept bytes k e h =
+    let q = first_none _ _ (each_none (call_fault bytes) (count_of_calls bytes) k h e) in
+    fields_kept (call_part bytes k) 3 (k + 1) (call_place bytes k) call_number_fields q.0

@@ -6,6 +6,7 @@ pub mod Layout
 pub mod Records
 pub mod Format
 pub mod Located
+pub mod Numbered
 pub mod Reading
 pub mod Read
 pub mod Text

@@ -4,7 +4,7 @@
 #[cfg(test)]
 mod tests {
     use dayfile::fault::Fault;
-    use dayfile::file::DayFile;
+    use dayfile::file::{DayFile, DayFileView};
     use ledger::call::Call;
     use std::alloc::{AllocError, Global};
     use std::test::Fail;
@@ -302,6 +302,50 @@ mod tests {
         assert!(rt; file.call(&[], 0).is_none());
         assert_eq!(rt; file.calls(&bytes).count(), 11);
         assert_eq!(rt; file.calls(&[]).count(), 0);
+        Ok(())
+    }
+
+    #[test]
+    fn a_view_hands_out_its_calls(rt: HostRuntime) -> Result<(), Fail> {
+        let mut bytes = packed(rt.alloc(), 3, 2, 11)?;
+        let last = bytes.len().saturating_sub(24);
+        put(&mut bytes, last + 4, 4, 77);
+        put(&mut bytes, last + 12, 4, 5);
+        let Ok(view) = DayFileView::read(&bytes) else {
+            return Err(Fail::new("a fault"));
+        };
+        assert_eq!(rt; view.file().settings().day, 100);
+        assert_eq!(rt; view.file().call_count(), 11);
+        assert_eq!(rt; view.calls().count(), 11);
+        assert!(rt; matches!(view.calls().next(), Some(Call::Deposit { amount: 0 })));
+        assert!(rt;
+            matches!(
+                view.calls().last(),
+                Some(Call::Release {
+                    combination: 77,
+                    lots: 5
+                })
+            )
+        );
+        for (k, call) in view.calls().enumerate() {
+            assert_eq!(rt; usize::from(call.number()), k + 1);
+        }
+        Ok(())
+    }
+
+    #[test]
+    fn a_view_tells_the_same_fault(rt: HostRuntime) -> Result<(), Fail> {
+        let mut bytes = packed(rt.alloc(), 0, 2, 11)?;
+        assert!(rt; DayFileView::read(&bytes).is_ok());
+        put(&mut bytes, CALLS, 1, 0);
+        let Err(fault) = DayFileView::read(&bytes) else {
+            return Err(Fail::new("no fault"));
+        };
+        let fault = Fault::from(fault);
+        assert_eq!(rt; usize::from(fault.number), 4);
+        assert_eq!(rt; usize::from(fault.section), 3);
+        assert_eq!(rt; fault.ordinal, 1);
+        assert_eq!(rt; fault.place, CALLS);
         Ok(())
     }
 }

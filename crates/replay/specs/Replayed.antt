@@ -1,5 +1,5 @@
 -- What a report says of the day file that it was made from. Assumes nothing.
-use Rattle.std.specs.Prelude.{◌≡◌, ℕ, zero, suc, ◌+◌, List, [], ◌∷◌, ◌++◌, map, length, Some, None, Ok, Err, vec_items, Option, Result}
+use Rattle.std.specs.Prelude.{◌≡◌, ℕ, zero, suc, ◌+◌, ◌*◌, List, [], ◌∷◌, ◌++◌, map, length, Some, None, Ok, Err, vec_items, Option, Result}
 use Rattle.std.specs.Io.KnownBytes.{Appends}
 use Rattle.margin.specs.declared.contract.Contract.{Contract}
 use Rattle.margin.specs.Meaning.{Meaning, standard_meaning, listed_meaning, raised_meaning}
@@ -15,7 +15,8 @@ use Rattle.ledger.specs.Ledger.{Ledger, opening_ledger}
 use Rattle.ledger.specs.Runs.{Run, LawAlong}
 use Rattle.margin.specs.Listing.{listed}
 use Rattle.dayfile.specs.declared.file.DayFile.{DayFile}
-use Rattle.dayfile.specs.Read.{Says}
+use Rattle.dayfile.specs.Bytes.{part}
+use Rattle.dayfile.specs.Read.{SaysWith}
 use Rattle.dayfile.specs.Faults.{file_told}
 use Rattle.dayfile.specs.Fields.{values}
 use Rattle.dayfile.specs.Format.{settings_part, terms, count_of_contracts, count_of_calls, call_at, file_fault}
@@ -73,9 +74,9 @@ pub record DayReport (m : Meaning) (bytes : List ℕ) (s : Settings) (cs : List 
   pub calls_are : map place_and_call (vec_items report.calls) ≡ numbered_calls bytes (count_of_calls bytes)
   pub told : Told m cs s (vec_items report.calls) report.end
 
--- the report of a file, where the bytes are such as say it
+-- the report of a file with the calls that stand at its places of some bytes, as of any bytes that say it with these calls
 abbrev pub FileReport : Meaning → List ℕ → DayFile → Report → Type 0
-FileReport m bytes d report = Says bytes d → DayReport m bytes d.settings (listed d.listing) report
+FileReport m at_hand d report = (bytes : List ℕ) → SaysWith bytes d (part at_hand d.calls (24 * d.call_count)) → DayReport m bytes d.settings (listed d.listing) report
 
 -- the report of the bytes: they have no fault, and it is the report of the settings, contracts and calls that they say, under the scale of those settings
 pub record Reported (bytes : List ℕ) (report : Report) : Type 0 where
@@ -100,6 +101,6 @@ TextOf bytes text = elim (file_fault bytes) [ Some fault ↦ text ≡ line (faul
 abbrev pub TextWritten : List ℕ → Option (List ℕ) → Option (List ℕ) → Type 0
 TextWritten bytes before after = (text : List ℕ) × (TextOf bytes text × Appends before after text)
 
--- the same of the report of a file under a scale's meaning, where the bytes are such as say the file
+-- the same of the report of a file under a scale's meaning, with the calls at hand, as of any bytes that say it with these
 abbrev pub DayWritten : Meaning → List ℕ → DayFile → Option (List ℕ) → Option (List ℕ) → Type 0
-DayWritten m bytes d before after = Says bytes d → (report : Report) × (DayReport m bytes d.settings (listed d.listing) report × Appends before after (report_text report))
+DayWritten m at_hand d before after = (bytes : List ℕ) → SaysWith bytes d (part at_hand d.calls (24 * d.call_count)) → (report : Report) × (DayReport m bytes d.settings (listed d.listing) report × Appends before after (report_text report))

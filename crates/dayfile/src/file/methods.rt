@@ -2,9 +2,10 @@
 ghost use Rattle.std.specs.Prelude.{◌≡◌, ◌*◌, length};
 ghost use Rattle.std.specs.Iterator.{at_most};
 ghost use Rattle.dayfile.specs.Bytes.{part};
-ghost use Rattle.dayfile.specs.Read.{ReadAs, call_of, OwnCall, OwnCalls, GivesCall};
+ghost use Rattle.dayfile.specs.Numbered.{Numbered};
+ghost use Rattle.dayfile.specs.Read.{ReadAs, Says, call_of, OwnCall, OwnCalls, GivesCallIn};
 
-use super::{Calls, DayFile};
+use super::{CallsIn, DayFile};
 use crate::call::parse::{call as parse_call, check_all};
 use crate::contracts::listing;
 use crate::fault::FileFault;
@@ -68,21 +69,22 @@ impl DayFile {
     }
 
     // The calls, one after another, as far as the bytes reach. `bytes` are those that the file was read from.
-    pub fn calls<'a>(&self, bytes: &'a [u8]) -> Calls<'a>
+    pub fn calls<'a>(&self, bytes: &'a [u8]) -> CallsIn<'a>
         ensures are { result.rest.now ≡ part bytes.now self.now.calls (24 * self.now.call_count) }
         ensures own { OwnCalls self.now bytes.now result.rest.now }
+        ensures numbered { Says bytes.now self.now → Numbered result.rest.now }
     {
         let behind = &bytes[self.calls.min(bytes.len())..];
-        Calls {
+        CallsIn {
             rest: &behind[..(CALL * self.call_count).min(behind.len())],
         }
     }
 }
 
-impl Iterator for Calls<'_> {
+impl Iterator for CallsIn<'_> {
     type Item = Call;
 
-    ghost next_gives = { GivesCall };
+    ghost next_gives = { GivesCallIn };
 
     ghost remaining = { λ s. at_most (length s.rest.now) };
 

@@ -3,7 +3,7 @@ use Rattle.std.proofs.lemmas.List.{length_push}
 use Rattle.margin.specs.Listing.{listed}
 use Rattle.margin.specs.Meaning.{Meaning, meaning}
 use Rattle.dayfile.specs.declared.file.DayFile.{DayFile}
-use Rattle.dayfile.proofs.Calling.{CallsAt, calls_moved, call_is, calls_ended}
+use Rattle.dayfile.proofs.Calling.{CallsAt, calls_moved, call_own, ended_own}
 use Rattle.replay.specs.Replayed.{numbered_calls, place_and_call}
 use Rattle.replay.proofs.Telling.{none_told, one_told, numbered_more, all_told}
 use Rattle.replay.proofs.play.play.Goals as goal
@@ -14,7 +14,7 @@ loop-call-init g c =
       told = rw (c.new-calls.ensures.items, ← c.settings-settings.ensures, ← c.listing-listing.ensures)
           (none_told m c.settings-settings.result (listed c.listing-listing.result.now) c.open-book.result.tables c.open-book.ensures.opened (c.open-book.ensures.law m));
       many = c.new-calls.ensures.len;
-      calls = λ says. ap (map place_and_call) c.new-calls.ensures.items;
+      calls = λ bytes says. ap (map place_and_call) c.new-calls.ensures.items;
       at = subst (λ s. CallsAt c.args.file.now c.args.bytes.now 0 s) (sym c.into_iter-call-iterator.ensures.into_iter_gives) (record { rest_is = c.calls-call-items.ensures.are; within = omega arith });
     }
 
@@ -33,13 +33,13 @@ loop-call-preserved g c =
     let more = length_push c.loop-call.yielded c.in-Some.call in record {
       told = rw c.in_ok-push.ensures.items (one_told m d.settings (listed d.listing) c.open-book.result.tables lines line now after _ c.in-Some.call inv.told c.play_call.ensures.line c.play_call.ensures.law);
       many = omega (arith, c.in_ok-push.ensures.len, more, inv.many);
-      calls = λ says. rw (c.in_ok-push.ensures.items, more)
-          (numbered_more m bytes k lines line now after _ c.in-Some.call c.play_call.ensures.line (omega (arith, c.len-place.ensures, inv.many)) (call_is d bytes k c.loop-call.call-iterator c.next.new.self inv.at says c.in-Some.call gives) (inv.calls says));
+      calls = λ own says. rw (c.in_ok-push.ensures.items, more)
+          (numbered_more m own k lines line now after _ c.in-Some.call c.play_call.ensures.line (omega (arith, c.len-place.ensures, inv.many)) (call_own d bytes k c.loop-call.call-iterator c.next.new.self inv.at own says c.in-Some.call gives) (inv.calls own says));
       at = rw more (calls_moved d bytes k c.loop-call.call-iterator c.next.new.self inv.at c.in-Some.call gives);
     }
 
 pub returns : goal.returns
-returns g c = λ says.
+returns g c = λ own says.
     let m : Meaning = meaning g.S.LegScale.leg_of g.S.CombinationScale.pair_of c.args.scale.now in
     let d : DayFile = c.args.file.now in
     let bytes = c.args.bytes.now in
@@ -47,6 +47,6 @@ returns g c = λ says.
     let inv = c.loop-call.invariant in
     record {
       opening_is = cc;
-      calls_are = inv.calls says ∙ ap (numbered_calls bytes) (calls_ended d bytes k c.loop-call.call-iterator c.next.new.self inv.at says c.in-None.ensures.steps);
+      calls_are = inv.calls own says ∙ ap (numbered_calls own) (ended_own d bytes k c.loop-call.call-iterator c.next.new.self inv.at own says c.in-None.ensures.steps);
       told = all_told m d.settings (listed d.listing) c.open-book.result.tables (vec_items c.loop-call.calls) c.loop-call.book.tables _ inv.told (cc);
     }
